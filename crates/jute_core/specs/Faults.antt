@@ -10,8 +10,8 @@ pub record HasCause {T E : Type 0} (before now : ℕ) (result : Result T E) : Ty
   pub later : before ≤ now
   pub failed : OnErr result (Rose before now)
 
--- What a sink took, before and after a write: after Ok the whole piece was added, after a failure a front of it. A sink
--- that does not tell has None.
+-- What a sink took, before and after a write: after Ok the whole piece was added, after a failure a
+-- front of it. A sink that does not tell has None.
 abbrev pub Takes : {T E : Type 0} → Option (List ℕ) → Option (List ℕ) → List ℕ → Result T E → Type 0
 Takes None after piece result = after ≡ None
 Takes (Some before) after piece (Ok _) = after ≡ Some (before ++ piece)

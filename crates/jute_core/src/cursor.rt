@@ -1,4 +1,8 @@
 //! A reader of Jute values.
+//!
+//! Each call reads one field and borrows from the slice. Its contract is one word: after `Ok` the
+//! bytes that it passed spell the value, and after a refusal the place and the reason are those of
+//! the first field that fails, and the cursor stands where it stood. No call takes memory.
 
 ghost use Rattle.std.specs.Prelude.{◌≡◌, ℕ, ◌+◌, ◌<◌, ◌^◌, length, Err, OnOk, IfErr, []};
 ghost use Rattle.std.specs.Option.{option_copied};
@@ -8,7 +12,7 @@ ghost use Rattle.jute_core.specs.Position.{Reads};
 
 use std::marker::Model;
 
-/// What is wrong with bytes.
+/// What is wrong with bytes that are no value of the type asked for.
 #[derive(Clone, Copy, Debug, Drop, PartialEq, Eq)]
 pub enum Reason {
     /// Fewer bytes are left than the field needs.
@@ -32,11 +36,16 @@ pub enum Reason {
 /// Where bytes are wrong, counted from 0 in a frame's body, and how.
 #[derive(Clone, Copy, Debug, Drop, PartialEq, Eq)]
 pub struct Refusal {
+    /// The place of the first byte that is wrong or lacking, or of its field: the first byte of an
+    /// int, a long, a boolean, a length, a count or a header; for contents that are cut short or no
+    /// text, the first byte after their length.
     pub place: u32,
+    /// What is wrong there.
     pub reason: Reason,
 }
 
-/// A reader of a slice. After a refusal it stands where it stood.
+/// A reader of a slice, which contracts see as the bytes that are left and the place of the first
+/// of them. After a refusal it stands where it stood.
 #[derive(Drop)]
 pub struct Cursor<'a> {
     left: &'a [u8],
@@ -55,6 +64,7 @@ impl<'a> Model for Cursor<'a> {
 }
 
 impl<'a> Cursor<'a> {
+    /// A reader of all the bytes, of which the first has place 0.
     pub fn new(bytes: &'a [u8]) -> Cursor<'a>
         requires { length bytes.now < 2 ^ 32 }
         ensures { result ≡ record { place = 0; left = bytes.now } }
@@ -65,7 +75,8 @@ impl<'a> Cursor<'a> {
         }
     }
 
-    /// Another reader at the same place.
+    /// Another reader at the same place. A record's reader goes ahead on a copy, and moves the
+    /// cursor that it was given only when it has read the last field.
     pub fn copy(&self) -> Cursor<'a>
         ensures { result ≡ self.now }
     {
@@ -75,6 +86,7 @@ impl<'a> Cursor<'a> {
         }
     }
 
+    /// The place of the next byte, counted from 0.
     pub fn place(&self) -> u32
         ensures { result ≡ self.now.place }
     {
@@ -91,6 +103,10 @@ impl<'a> Cursor<'a> {
         })
     }
 
+    /// Four bytes, the highest first, in two's complement.
+    ///
+    /// # Errors
+    /// `Short` where fewer are left.
     #[tactic(auto, unfolding(crate::specs::Jute::Spells, crate::specs::Jute::Refused))]
     pub fn int(&mut self) -> Result<i32, Refusal>
         ensures { Reads self.old self.new int (λ z. z) result }
@@ -105,6 +121,10 @@ impl<'a> Cursor<'a> {
         Ok(value)
     }
 
+    /// Eight bytes, the highest first, in two's complement.
+    ///
+    /// # Errors
+    /// `Short` where fewer are left.
     #[tactic(auto, unfolding(crate::specs::Jute::Spells, crate::specs::Jute::Refused))]
     pub fn long(&mut self) -> Result<i64, Refusal>
         ensures { Reads self.old self.new long (λ z. z) result }
@@ -121,6 +141,10 @@ impl<'a> Cursor<'a> {
         Ok(value)
     }
 
+    /// One byte, 0 or 1.
+    ///
+    /// # Errors
+    /// `Short` where none is left, `BadBool` where it is above 1.
     #[tactic(auto, unfolding(crate::specs::Jute::Spells, crate::specs::Jute::Refused))]
     pub fn boolean(&mut self) -> Result<bool, Refusal>
         ensures { Reads self.old self.new boolean (λ b. b) result }
@@ -141,74 +165,83 @@ impl<'a> Cursor<'a> {
         }
     }
 
-    /// A count, of which -1 is null.
+    /// The count of a vector, an int of which -1 is null.
+    ///
+    /// # Errors
+    /// `Short`, and `BadLength` below -1.
     #[tactic(auto, unfolding(crate::specs::Jute::Spells, crate::specs::Jute::Refused))]
     pub fn count(&mut self) -> Result<Option<u32>, Refusal>
         ensures { Reads self.old self.new count (λ n. n) result }
     {
-        let (place, left) = (self.place, self.left);
-        let number = self.int()?;
-        if number >= 0 {
-            return Ok(Some(number as u32));
+        let mut ahead = self.copy();
+        let number = ahead.int()?;
+        if number < -1 {
+            return self.refuse(Reason::BadLength);
         }
+        *self = ahead;
         if number == -1 {
-            return Ok(None);
+            Ok(None)
+        } else {
+            Ok(Some(number as u32))
         }
-        self.place = place;
-        self.left = left;
-        self.refuse(Reason::BadLength)
     }
 
-    /// Bytes after their length, of which -1 is null.
+    /// Bytes after their length, an int of which -1 is null.
+    ///
+    /// # Errors
+    /// `Short` at the length or at the contents, and `BadLength` for a length below -1.
     #[tactic(auto, unfolding(crate::specs::Jute::Spells, crate::specs::Jute::Refused))]
     pub fn buffer(&mut self) -> Result<Option<&'a [u8]>, Refusal>
         ensures { Reads self.old self.new buffer option_copied result }
     {
-        let (place, left) = (self.place, self.left);
-        let Some(length) = self.count()? else {
+        let mut ahead = self.copy();
+        let Some(length) = ahead.count()? else {
+            *self = ahead;
             return Ok(None);
         };
         let length = length as usize;
-        if self.left.len() < length {
-            let refusal = self.refuse(Reason::Short);
-            self.place = place;
-            self.left = left;
-            return refusal;
+        if ahead.left.len() < length {
+            return ahead.refuse(Reason::Short);
         }
-        let (front, rest) = self.left.split_at(length);
-        self.left = rest;
-        self.place += length as u32;
+        let (front, rest) = ahead.left.split_at(length);
+        *self = Cursor {
+            left: rest,
+            place: ahead.place + length as u32,
+        };
         Ok(Some(front))
     }
 
-    /// A text, which is never null.
+    /// The UTF-8 bytes of a text after their length. A text is never null.
+    ///
+    /// # Errors
+    /// `Short` at the length or at the contents, `BadLength` for a length below 0, and `BadUtf8` at
+    /// the contents.
     #[tactic(auto, unfolding(crate::specs::Jute::Spells, crate::specs::Jute::Refused))]
     pub fn ustring(&mut self) -> Result<&'a str, Refusal>
         ensures { Reads self.old self.new ustring (λ t. t.now) result }
     {
-        let (place, left) = (self.place, self.left);
-        let Some(bytes) = self.buffer()? else {
-            self.place = place;
-            self.left = left;
+        let mut ahead = self.copy();
+        let Some(bytes) = ahead.buffer()? else {
             return self.refuse(Reason::BadLength);
         };
-        match str::from_utf8(bytes) {
-            Ok(text) => Ok(text),
-            Err(_) => {
-                self.place = place;
-                self.left = left;
-                Err(Refusal {
-                    place: place + 4,
-                    reason: Reason::BadUtf8,
-                })
-            }
-        }
+        let Ok(text) = str::from_utf8(bytes) else {
+            return Err(Refusal {
+                place: self.place + 4,
+                reason: Reason::BadUtf8,
+            });
+        };
+        *self = ahead;
+        Ok(text)
     }
 
-    /// Refused exactly where bytes are left.
+    /// That nothing follows.
+    ///
+    /// # Errors
+    /// `Trailing` at the next byte exactly where one is left.
     pub fn end(&self) -> Result<(), Refusal>
         ensures ok { OnOk result (self.now.left ≡ []) }
-        ensures refused { IfErr result (λ refusal. (0 < length self.now.left) × (refusal ≡ record { place = self.now.place; reason = Trailing })) }
+        ensures refused { IfErr result (λ refusal. (0 < length self.now.left)
+            × (refusal ≡ record { place = self.now.place; reason = Trailing })) }
     {
         if self.left.is_empty() {
             Ok(())
