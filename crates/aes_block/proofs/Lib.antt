@@ -1,0 +1,6 @@
+pub mod Bytes
+pub mod Fits
+pub mod Inverse
+pub mod Words
+pub mod Remainder
+pub mod Division
