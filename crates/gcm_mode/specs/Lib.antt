@@ -1,0 +1,3 @@
+pub mod Ghash
+pub mod Gcm
+pub mod Laws

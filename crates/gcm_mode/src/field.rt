@@ -1,0 +1,39 @@
+//! The field of the blocks (NIST SP 800-38D, section 6.3). A block is a `u128`, and its highest bit
+//! is the coefficient of x^0.
+
+ghost use Rattle.std.specs.Prelude.{◌≡◌, ◌<◌, ◌==◌, ◌∷◌, false, if◌then◌else◌};
+ghost use Rattle.aes_block.specs.Polynomial.{less_modulus};
+ghost use Rattle.gcm_mode.specs.Ghash.{bits, modulus, times};
+
+// x^128, which is x^7 + x^2 + x + 1.
+const REDUCTION: u128 = 0xe100_0000_0000_0000_0000_0000_0000_0000;
+
+// The value where the bit is 1, and else 0, without a branch.
+fn selected(bit: u128, value: u128) -> u128
+    requires { bit < 2 }
+    ensures { result ≡ (if bit == 1 then value else 0) }
+{
+    value & bit.wrapping_neg()
+}
+
+// The product of x and a block.
+fn times_x(block: u128) -> u128
+    ensures { bits 128 result ≡ less_modulus modulus (false ∷ bits 128 block) }
+{
+    block >> 1 ^ selected(block & 1, REDUCTION)
+}
+
+/// The product of two blocks.
+///
+/// From the last coefficient of the first block to the first one: what there is so far is
+/// multiplied by x, and the second block is added where the coefficient is 1.
+pub(crate) fn times(first: u128, second: u128) -> u128
+    ensures { result ≡ times first second }
+{
+    let mut product = 0;
+    for i in 0u32..128 {
+        let moved = times_x(product);
+        product = moved ^ selected(first >> i & 1, second);
+    }
+    product
+}
