@@ -1,0 +1,3 @@
+pub mod Sealed
+pub mod Names
+pub mod Laws

@@ -1,0 +1,34 @@
+//! Names that an untrusted store sees: each component of a path sealed by AES-128-GCM under the
+//! plain path above it, in lower-case hex.
+//!
+//! The definitions are in `specs/Sealed.antt`. Opening is defined by sealing alone: a text opens to
+//! what is legal and sealed to it. The crate stands on `gcm_mode` for the cipher, on `sha2` for the
+//! IV of a name, on `hex` for its text, and on `zk_path` for which names are legal.
+//!
+//! Read [`seal_path`] first, then [`open_path`], then the laws at the end of this file. Sealing and
+//! opening read a text once, but for the hash and the additional data of each component, which are
+//! of the whole text above it.
+#![tactic(auto)]
+
+ghost use Rattle.path_seal.specs.Laws.{SealsPathsApart, SealsStemsApart};
+
+mod keys;
+mod opening;
+mod sealing;
+
+pub use keys::NameKeys;
+pub use opening::{open_name, open_path, open_stem};
+pub use sealing::{seal_name, seal_path};
+
+/// The law that no two legal paths have one sealed form.
+pub fn paths_apart()
+    ensures { SealsPathsApart }
+{}
+
+/// The law that no two legal stems have one sealed form.
+pub fn stems_apart()
+    ensures { SealsStemsApart }
+{}
+
+#[cfg(test)]
+mod tests;

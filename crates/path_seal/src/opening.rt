@@ -1,0 +1,235 @@
+//! Opening names, paths and stems.
+
+ghost use Rattle.std.specs.Prelude.{◌≡◌, ◌≤◌, ◌<◌, ◌↔◌, ◌^◌, ◌++◌, ◌∷◌, ℕ, List, Ok, true, false, length, string_bytes, IfOk, IfSome, IfNone, IsTrue, MatchOption, All};
+ghost use Rattle.std.specs.Str.{IsUtf8};
+ghost use Rattle.aes_block.specs.Laws.{IsBytes};
+ghost use Rattle.hex.specs.Hex.{encode_lower};
+ghost use Rattle.gcm_mode.specs.Gcm.{Gcm};
+ghost use Rattle.zk_path.specs.Paths.{HasNoSlash, IsComponent, joined, text_of};
+ghost use Rattle.path_seal.specs.Sealed.{SealName, OpensName, Opens, OpensStem};
+ghost use Rattle.path_seal.specs.Names.{IsCut, IsName, AppendsName, IsPlainOf, IsSealedOf};
+
+use crate::keys::NameKeys;
+use crate::sealing::{above_of, iv_of, parent_text};
+use aes_block::Key;
+use gcm_mode::unseal;
+use hex::FromHexError;
+use jute_core::{Memory, Text};
+use std::alloc::Global;
+use zk_path::{NotPath, Path, check_path, read_path, read_stem};
+
+// The bytes that a text spells in lower-case hex.
+fn bytes_of(alloc: Global, text: &str) -> Result<Option<Vec<u8>>, Memory>
+    ensures some { IfOk result (λ found. IfSome found (λ bytes. encode_lower bytes.items ≡ text.now)) }
+    ensures one { IfOk result (λ found. IfSome found (λ bytes. (b : List ℕ) → IsBytes b → encode_lower b ≡ text.now → bytes.items ≡ b)) }
+    ensures none { IfOk result (λ found. IfNone found ((b : List ℕ) → IsBytes b → encode_lower b ≡ text.now → ⊥)) }
+{
+    let bytes = match hex::decode(alloc, text) {
+        Ok(bytes) => bytes,
+        Err(fault) => match fault {
+            FromHexError::OutOfMemory => return Err(Memory),
+            _ => return Ok(None),
+        },
+    };
+    // Digits in upper case were read too.
+    let again = hex::encode(alloc, bytes.as_slice())?;
+    if again.as_str() == text {
+        Ok(Some(bytes))
+    } else {
+        Ok(None)
+    }
+}
+
+// The IV, the ciphertext and the tag.
+fn parts_of(bytes: &[u8]) -> Option<(&[u8; 12], &[u8], &[u8; 16])>
+    ensures { MatchOption result (length bytes.now < 28) (λ parts. IsCut bytes.now parts.0.now parts.1.now parts.2.now) }
+{
+    let (iv, rest) = bytes.split_first_chunk::<12>()?;
+    let (text, tag) = rest.split_last_chunk::<16>()?;
+    Some((iv, text, tag))
+}
+
+// The name that a ciphertext and a tag open to.
+fn unsealed(
+    alloc: Global,
+    key: &Key,
+    iv: &[u8; 12],
+    aad: &[u8],
+    text: &[u8],
+    tag: &[u8; 16],
+) -> Result<Option<String>, Memory>
+    requires aad { length aad.now ≤ 2 ^ 28 }
+    requires text { length text.now ≤ 2 ^ 28 }
+    ensures some { IfOk result (λ found. IfSome found (λ name. text.now ++ tag.now ≡ Gcm key.now iv.now aad.now (string_bytes name))) }
+    ensures none { IfOk result (λ found. IfNone found ((n : List ℕ) → IsUtf8 n → text.now ++ tag.now ≡ Gcm key.now iv.now aad.now n → ⊥)) }
+{
+    let mut name = Vec::new(alloc);
+    match unseal(key, iv, aad, text, tag, &mut name) {
+        Ok(true) => {}
+        Ok(false) => return Ok(None),
+        // Neither text is too long.
+        Err(_) => return Err(Memory),
+    }
+    match String::from_utf8(name) {
+        Ok(name) => Ok(Some(name)),
+        Err(_) => Ok(None),
+    }
+}
+
+// The name without a slash that a text opens to under the path above it.
+fn opened_name(
+    alloc: Global,
+    keys: &NameKeys,
+    above: &[u8],
+    text: &str,
+) -> Result<Option<String>, Memory>
+    requires above { length above.now ≤ 2 ^ 28 }
+    requires text { length text.now ≤ 2 ^ 28 }
+    ensures some { IfOk result (λ found. IfSome found (λ name. IsName (string_bytes name)
+        × ((p : List (List ℕ)) → above.now ≡ joined p → SealName keys.now p (string_bytes name) ≡ text.now))) }
+    ensures none { IfOk result (λ found. IfNone found ((p : List (List ℕ)) (n : List ℕ) → above.now ≡ joined p → IsName n → SealName keys.now p n ≡ text.now → ⊥)) }
+    ensures key { IsBytes keys.now.key }
+{
+    let key = keys.key();
+    let Some(bytes) = bytes_of(alloc, text)? else {
+        return Ok(None);
+    };
+    let Some((iv, sealed, tag)) = parts_of(bytes.as_slice()) else {
+        return Ok(None);
+    };
+    let Some(name) = unsealed(alloc, key, iv, parent_text(above), sealed, tag)? else {
+        return Ok(None);
+    };
+    if iv_of(keys, above, name.as_bytes()) != *iv {
+        return Ok(None);
+    }
+    if name.as_str().contains('/') {
+        return Ok(None);
+    }
+    Ok(Some(name))
+}
+
+// Appends a slash and the name that a text opens to under the path that `plain` has, and says
+// whether there is one.
+fn push_opened(
+    alloc: Global,
+    keys: &NameKeys,
+    text: &str,
+    plain: &mut String,
+) -> Result<bool, Memory>
+    requires plain { length (string_bytes plain.old) ≤ 2 ^ 28 }
+    requires text { length text.now ≤ 2 ^ 28 }
+    ensures some { result ≡ Ok true → (p : List (List ℕ)) → string_bytes plain.old ≡ joined p
+        → AppendsName keys.now p text.now (string_bytes plain.old) (string_bytes plain.new) }
+    ensures none { result ≡ Ok false → (p : List (List ℕ)) (n : List ℕ) → string_bytes plain.old ≡ joined p → IsName n → SealName keys.now p n ≡ text.now → ⊥ }
+    ensures key { IsBytes keys.now.key }
+{
+    let Some(name) = opened_name(alloc, keys, plain.as_bytes(), text)? else {
+        return Ok(false);
+    };
+    plain.push('/')?;
+    plain.push_str(name.as_str())?;
+    Ok(true)
+}
+
+// The plain text of what is sealed to a text, with each component after a slash, whether it is
+// legal or not.
+fn opened_text(alloc: Global, keys: &NameKeys, text: &str) -> Result<Option<String>, Memory>
+    requires { length text.now ≤ 2 ^ 28 }
+    ensures some { IfOk result (λ found. IfSome found (λ plain. IsPlainOf keys.now text.now (string_bytes plain))) }
+    ensures none { IfOk result (λ found. IfNone found ((p : List (List ℕ)) → IsSealedOf keys.now text.now p → ⊥)) }
+{
+    let Some(mut rest) = text.strip_prefix('/') else {
+        return Ok(None);
+    };
+    let mut plain = String::new(alloc);
+    while let Some((sealed, after)) = rest.split_once('/') {
+        if !push_opened(alloc, keys, sealed, &mut plain)? {
+            return Ok(None);
+        }
+        rest = after;
+    }
+    if !push_opened(alloc, keys, rest, &mut plain)? {
+        return Ok(None);
+    }
+    Ok(Some(plain))
+}
+
+// Whether a name without a slash is a legal component.
+fn is_component(alloc: Global, name: &str) -> Result<bool, Memory>
+    requires no_slash { HasNoSlash name.now }
+    requires short { length name.now ≤ 2 ^ 28 }
+    ensures { IfOk result (λ legal. IsTrue legal ↔ IsComponent name.now) }
+{
+    if name.is_empty() {
+        return Ok(false);
+    }
+    let mut text = String::from_str(alloc, "/")?;
+    text.push_str(name)?;
+    Ok(check_path(text.as_str()).is_none())
+}
+
+/// The legal component that a text opens to under a path. None exactly where no legal component is
+/// sealed to it there.
+pub fn open_name(
+    alloc: Global,
+    keys: &NameKeys,
+    parent: &Path,
+    text: &str,
+) -> Result<Option<Text>, Memory>
+    requires parent { length (text_of parent.now) ≤ 2 ^ 28 }
+    requires text { length text.now ≤ 2 ^ 28 }
+    ensures some { IfOk result (λ found. IfSome found (OpensName keys.now parent.now text.now)) }
+    ensures none { IfOk result (λ found. IfNone found ((n : List ℕ) → OpensName keys.now parent.now text.now n → ⊥)) }
+{
+    let above = above_of(parent).as_bytes();
+    let Some(name) = opened_name(alloc, keys, above, text)? else {
+        return Ok(None);
+    };
+    if is_component(alloc, name.as_str())? {
+        Ok(Some(Text::of(name)))
+    } else {
+        Ok(None)
+    }
+}
+
+/// The legal path that a text opens to. None exactly where no legal path is sealed to it.
+pub fn open_path(alloc: Global, keys: &NameKeys, text: &str) -> Result<Option<Path>, Memory>
+    requires { length text.now ≤ 2 ^ 28 }
+    ensures some { IfOk result (λ found. IfSome found (Opens keys.now text.now)) }
+    ensures none { IfOk result (λ found. IfNone found ((p : List (List ℕ)) → Opens keys.now text.now p → ⊥)) }
+{
+    if text == "/" {
+        return Ok(Some(Path::root(alloc)));
+    }
+    let Some(plain) = opened_text(alloc, keys, text)? else {
+        return Ok(None);
+    };
+    match read_path(alloc, plain.as_str()) {
+        Ok(path) => {
+            // One empty component has the root's text.
+            if path.is_root() {
+                return Ok(None);
+            }
+            Ok(Some(path))
+        }
+        Err(NotPath::BadPath { place: _ }) => Ok(None),
+        Err(NotPath::Memory) => Err(Memory),
+    }
+}
+
+/// The legal stem that a text opens to. None exactly where no legal stem is sealed to it.
+pub fn open_stem(alloc: Global, keys: &NameKeys, text: &str) -> Result<Option<Path>, Memory>
+    requires { length text.now ≤ 2 ^ 28 }
+    ensures some { IfOk result (λ found. IfSome found (OpensStem keys.now text.now)) }
+    ensures none { IfOk result (λ found. IfNone found ((s : List (List ℕ)) → OpensStem keys.now text.now s → ⊥)) }
+{
+    let Some(plain) = opened_text(alloc, keys, text)? else {
+        return Ok(None);
+    };
+    match read_stem(alloc, plain.as_str()) {
+        Ok(stem) => Ok(Some(stem)),
+        Err(NotPath::BadPath { place: _ }) => Ok(None),
+        Err(NotPath::Memory) => Err(Memory),
+    }
+}
