@@ -1,0 +1,3 @@
+pub mod ConnectLemmas
+pub mod OneConnect
+pub mod StatLemmas
