@@ -1,0 +1,10 @@
+pub mod ItemLemmas
+pub mod Orders
+pub mod Steps
+pub mod Machine
+pub mod Forms
+pub mod Whole
+pub mod RequestLemmas
+pub mod FrameLemmas
+pub mod FormLoops
+pub mod MessageLemmas

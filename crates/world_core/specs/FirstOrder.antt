@@ -1,0 +1,58 @@
+-- The order and the messages of a run over items of the first form, entry by entry.
+use Rattle.std.specs.Prelude.{ℤ, pos, List, [], ◌∷◌, Some}
+use Rattle.zk_records.specs.declared.stat.Stat.{Stat}
+use Rattle.world_core.specs.declared.entry.Entry.{Entry}
+use Rattle.world_core.specs.declared.entry.Entry.TheVariants.{Connect, Take}
+use Rattle.world_core.specs.declared.request.Request.{Request}
+use Rattle.world_core.specs.declared.request.Request.TheVariants.{Exists, Ping, Close}
+use Rattle.world_core.specs.declared.request.Item.{Item}
+use Rattle.world_core.specs.declared.request.Item.TheVariants.{Asks, Requests}
+use Rattle.world_core.specs.declared.message.Outcome.{Outcome}
+use Rattle.world_core.specs.declared.message.Outcome.TheVariants.{Empty, Stat as HasStat}
+use Rattle.world_core.specs.declared.message.Message.{Message}
+use Rattle.world_core.specs.declared.message.Message.TheVariants.{Connected, Reply as Replied}
+use Rattle.world_core.specs.Order.{clamped}
+use Rattle.world_core.specs.Step.{read_only_of}
+use Rattle.world_core.specs.Headline.{first_password}
+
+-- the last zxid after a request
+abbrev pub zxid_of : Request → ℤ
+zxid_of (Exists watch) = pos 1
+zxid_of Ping = pos 1
+zxid_of Close = pos 2
+
+abbrev pub root_stat : Stat
+root_stat = record {
+  czxid = pos 0;
+  mzxid = pos 0;
+  ctime = pos 0;
+  mtime = pos 0;
+  version = pos 0;
+  cversion = pos 0;
+  aversion = pos 0;
+  owner = pos 0;
+  length = pos 0;
+  children = pos 0;
+  pzxid = pos 0;
+}
+
+abbrev pub outcome_of : Request → Outcome
+outcome_of (Exists watch) = HasStat root_stat
+outcome_of Ping = Empty
+outcome_of Close = Empty
+
+abbrev pub entry_of : Item → Entry
+entry_of (Asks asked) = Connect 1 asked (pos 1) (clamped asked.timeout) first_password (pos 1) (pos 0)
+entry_of (Requests xid request) = Take 1 xid request (zxid_of request) (pos 0)
+
+abbrev pub message_of : Item → Message
+message_of (Asks asked) = Connected (record { protocol = pos 0; timeout = clamped asked.timeout; session = pos 1; password = Some first_password; read_only = read_only_of asked.read_only })
+message_of (Requests xid request) = Replied (record { xid = xid; zxid = zxid_of request; outcome = outcome_of request })
+
+unfoldable pub order_of : List Item → List Entry
+order_of [] = []
+order_of (item ∷ items) = entry_of item ∷ order_of items
+
+unfoldable pub messages_of : List Item → List Message
+messages_of [] = []
+messages_of (item ∷ items) = message_of item ∷ messages_of items

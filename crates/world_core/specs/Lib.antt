@@ -1,0 +1,16 @@
+pub mod Items
+pub mod Sent
+pub mod Messages
+pub mod State
+pub mod Step
+pub mod Order
+pub mod Fill
+pub mod Veiled
+pub mod FirstForm
+pub mod FirstOrder
+pub mod Headline
+pub mod Stages
+pub mod Prefixes
+pub mod Reading
+pub mod Sending
+pub mod Taking
