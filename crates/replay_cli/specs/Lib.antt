@@ -1,0 +1,11 @@
+pub mod Sinks
+pub mod Told
+pub mod Files
+pub mod Numbers
+pub mod Words
+pub mod Commands
+pub mod Printed
+pub mod Script
+pub mod Reading
+pub mod Run
+pub mod Stops

@@ -1,0 +1,71 @@
+-- The printed texts.
+use Rattle.std.specs.Prelude.{ℕ, ◌+◌, List, [], ◌∷◌, ◌++◌, length, codes}
+use Rattle.std.specs.Fmt.{decimal, signed_decimal}
+use Rattle.hex.specs.Hex.{encode_lower}
+use Rattle.world_core.specs.declared.entry.Entry.{Entry}
+use Rattle.world_core.specs.declared.entry.Entry.TheVariants.{Connect, Take}
+
+-- a line: a word and what follows it, then a line feed
+unfoldable pub line : List ℕ → List ℕ → List ℕ
+line word text = word ++ text ++ 10 ∷ []
+
+-- bytes in hex, or a dash where there are none
+abbrev pub bytes_text : List ℕ → List ℕ
+bytes_text [] = codes "-"
+bytes_text (b ∷ bs) = encode_lower (b ∷ bs)
+
+-- what is printed of a connection
+abbrev pub connection_text : ℕ → List ℕ → List ℕ → List ℕ → List ℕ → List ℕ
+connection_text number ending store received handed =
+    line (codes "connection ") (decimal number)
+    ++ line (codes "ending ") ending
+    ++ line (codes "store ") store
+    ++ line (codes "received ") (bytes_text received)
+    ++ line (codes "handed ") (bytes_text handed)
+
+-- a word and a value in a line
+unfoldable pub field : List ℕ → List ℕ → List ℕ
+field word text = word ++ text
+
+unfoldable pub line_feed : List ℕ
+line_feed = 10 ∷ []
+
+-- the line of an entry
+abbrev pub entry_text : Entry → List ℕ
+entry_text (Connect connection asked session timeout password zxid now) =
+    field (codes "connect ") (decimal connection)
+    ++ field (codes " session ") (signed_decimal session)
+    ++ field (codes " timeout ") (signed_decimal timeout)
+    ++ field (codes " password ") (encode_lower password)
+    ++ field (codes " zxid ") (signed_decimal zxid)
+    ++ field (codes " at ") (signed_decimal now)
+    ++ line_feed
+entry_text (Take connection xid request zxid now) =
+    field (codes "take ") (decimal connection)
+    ++ field (codes " xid ") (signed_decimal xid)
+    ++ field (codes " zxid ") (signed_decimal zxid)
+    ++ field (codes " at ") (signed_decimal now)
+    ++ line_feed
+
+unfoldable pub entries_text : List Entry → List ℕ
+entries_text [] = []
+entries_text (entry ∷ entries) = entry_text entry ++ entries_text entries
+
+-- how many entries there are, and each
+abbrev pub order_text : List Entry → List ℕ
+order_text entries = line (codes "order ") (decimal (length entries)) ++ entries_text entries
+
+-- What is printed of a connection: its two endings, what its client received and what was handed to the store.
+pub record Shown : Type 0 where
+  pub ending : List ℕ
+  pub store : List ℕ
+  pub received : List ℕ
+  pub handed : List ℕ
+
+-- the texts of connections, from this number on
+unfoldable pub shown_text : ℕ → List Shown → List ℕ
+shown_text number [] = []
+shown_text number (c ∷ more) = connection_text number c.ending c.store c.received c.handed ++ shown_text (number + 1) more
+
+abbrev pub world_text : List Entry → List Shown → List ℕ
+world_text order connections = order_text order ++ shown_text 1 connections

@@ -1,0 +1,73 @@
+-- What a replay prints, and when it is not built.
+use Rattle.std.specs.Prelude.{◌≡◌, ℕ, ◌<◌, ◌≤◌, ◌⊎◌, List, length, replicate, codes, Bool, if◌then◌else◌}
+use Rattle.replay_cli.specs.Told.{Told, untold, missing, holds, Agrees}
+use Rattle.replay_cli.specs.Printed.{Shown, world_text}
+use Rattle.replay_cli.specs.Script.{IsScript, opened, sent, drained}
+use Rattle.replay_cli.specs.declared.script.Event.{Event}
+use Rattle.world_core.specs.declared.entry.Entry.{Entry}
+use Rattle.world_core.specs.FirstForm.{IsFirstForm}
+use Rattle.world_core.specs.Headline.{Headline}
+
+-- the most bytes that a file may have
+abbrev pub file_limit : ℕ
+file_limit = 268435456
+
+-- the file has more bytes, where it is told
+abbrev pub IsTooLong : Told → Type 0
+IsTooLong untold = Unit {0}
+IsTooLong missing = ⊥
+IsTooLong (holds all) = file_limit < length all
+
+abbrev pub IsKey : List ℕ → Type 0
+IsKey key = length key ≡ 64
+
+-- what is printed of a connection, which is closed on both sides or open on both
+abbrev pub shown : List ℕ → List ℕ → Bool → Shown
+shown received handed closed = record {
+  ending = if closed then codes "closed" else codes "open";
+  store = if closed then codes "session-closed" else codes "open";
+  received = received;
+  handed = handed;
+}
+
+-- the events of scripts that are built: one connection at most, of which the client sends bytes of the first form
+abbrev pub IsBuilt : List Event → Type 0
+IsBuilt events = (opened events ≤ 1) × IsFirstForm (sent events)
+
+abbrev pub IsBuiltScript : List ℕ → Type 0
+IsBuiltScript script = (events : List Event) × IsScript script events × IsBuilt events
+
+-- what these events come to: an order, and what is printed of the connections, of which the headline speaks
+pub record Comes (events : List Event) (order : List Entry) (connections : List Shown) : Type 0 where
+  pub received : List ℕ
+  pub handed : List ℕ
+  pub closed : Bool
+  pub headline : Headline (sent events) (drained events) order received handed closed
+  pub shown_is : connections ≡ replicate (opened events) (shown received handed closed)
+
+-- the text is what built events print
+pub record PrintsEvents (events : List Event) (text : List ℕ) : Type 0 where
+  pub order : List Entry
+  pub connections : List Shown
+  pub built : IsBuilt events
+  pub comes : Comes events order connections
+  pub text_is : text ≡ world_text order connections
+
+-- these bytes may be the file's, and are none of this kind
+abbrev pub IsOutside : Told → (List ℕ → Type 0) → Type 0
+IsOutside told P = (bytes : List ℕ) × Agrees told bytes × (P bytes → ⊥)
+
+-- a cause of NotBuilt in the files of a replay
+abbrev pub CannotBuild : Told → Told → Type 0
+CannotBuild key script = IsTooLong key ⊎ IsOutside key IsKey ⊎ IsTooLong script ⊎ IsOutside script IsBuiltScript
+
+-- the text is what a replay of a key and a script in these files prints
+pub record IsReplayText (key script : Told) (text : List ℕ) : Type 0 where
+  pub key_bytes : List ℕ
+  pub script_bytes : List ℕ
+  pub events : List Event
+  pub key_agrees : Agrees key key_bytes
+  pub is_key : IsKey key_bytes
+  pub script_agrees : Agrees script script_bytes
+  pub is_script : IsScript script_bytes events
+  pub prints : PrintsEvents events text

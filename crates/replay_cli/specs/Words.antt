@@ -1,0 +1,46 @@
+-- The words of a command line.
+use Rattle.std.specs.Prelude.{◌≡◌, ◌⊎◌, ℕ, ◌-◌, ◌^◌, List, [], length, map, codes, string_bytes, String, slice_index_or}
+use Rattle.std.specs.Global.{Global}
+use Rattle.replay_cli.specs.Numbers.{IsNumber}
+
+abbrev pub Words : Type 0
+Words = List (String Global)
+
+-- one of them, as a text
+abbrev pub word : Words → ℕ → List ℕ
+word words i = slice_index_or (map string_bytes words) i []
+
+-- there are so many words, of which this is the first
+abbrev pub IsCalled : Words → ℕ → List ℕ → Type 0
+IsCalled words count name = (length words ≡ count) × (word words 0 ≡ name)
+
+-- The table of commands, a definition for each row.
+
+-- replay KEY SCRIPT
+abbrev pub IsReplay : Words → Type 0
+IsReplay words = IsCalled words 3 (codes "replay")
+
+-- hostile KEY SCRIPT
+abbrev pub IsHostile : Words → Type 0
+IsHostile words = IsCalled words 3 (codes "hostile")
+
+-- show FILE
+abbrev pub IsShow : Words → Type 0
+IsShow words = IsCalled words 2 (codes "show")
+
+-- stress SEED SESSIONS STEPS
+abbrev pub IsStress : Words → Type 0
+IsStress words = IsCalled words 4 (codes "stress")
+    × IsNumber 0 (2 ^ 64 - 1) (word words 1) × IsNumber 1 64 (word words 2) × IsNumber 0 100000 (word words 3)
+
+-- the commands that are not built yet
+abbrev pub IsUnbuilt : Words → Type 0
+IsUnbuilt words = IsHostile words ⊎ IsShow words ⊎ IsStress words
+
+-- a row fits
+abbrev pub Fits : Words → Type 0
+Fits words = IsReplay words ⊎ IsUnbuilt words
+
+-- the name of a file that a replay reads
+abbrev pub IsFileOf : Words → List ℕ → Type 0
+IsFileOf words name = IsReplay words × ((name ≡ word words 1) ⊎ (name ≡ word words 2))

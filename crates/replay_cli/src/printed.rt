@@ -1,0 +1,145 @@
+//! The printed texts.
+
+ghost use Rattle.std.specs.Prelude.{◌≡◌, ◌++◌, IfOk, OnOk, string_bytes};
+ghost use Rattle.std.specs.Fmt.{signed_decimal};
+ghost use Rattle.replay_cli.specs.Printed.{line, bytes_text, connection_text, field, line_feed, entry_text, entries_text, order_text};
+
+use jute_core::Memory;
+use std::alloc::{AllocError, Global};
+use world_core::Entry;
+
+// Bytes in hex, or a dash where there are none.
+fn bytes_text(alloc: Global, bytes: &[u8]) -> Result<String, AllocError>
+    ensures { IfOk result (λ text. string_bytes text ≡ bytes_text bytes.now) }
+{
+    if bytes.is_empty() {
+        String::from_str(alloc, "-")
+    } else {
+        hex::encode(alloc, bytes)
+    }
+}
+
+/// Appends a line of a word and a value.
+#[tactic(auto, unfolding(crate::specs::Printed::line))]
+pub fn push_line(into: &mut String, word: &str, value: &str) -> Result<(), Memory>
+    ensures { OnOk result
+        (string_bytes into.new ≡ string_bytes into.old ++ line word.now value.now) }
+{
+    into.push_str(word)?;
+    into.push_str(value)?;
+    into.push_str("\n")?;
+    Ok(())
+}
+
+/// Appends what is printed of a connection.
+pub fn push_connection(
+    alloc: Global,
+    into: &mut String,
+    number: u32,
+    ending: &str,
+    store: &str,
+    received: &[u8],
+    handed: &[u8],
+) -> Result<(), Memory>
+    ensures { OnOk result
+        (string_bytes into.new ≡ string_bytes into.old ++ connection_text number ending.now store.now received.now handed.now) }
+{
+    let number = number.to_string(alloc)?;
+    let received = bytes_text(alloc, received)?;
+    let handed = bytes_text(alloc, handed)?;
+    push_line(into, "connection ", number.as_str())?;
+    push_line(into, "ending ", ending)?;
+    push_line(into, "store ", store)?;
+    push_line(into, "received ", received.as_str())?;
+    push_line(into, "handed ", handed.as_str())?;
+    Ok(())
+}
+
+// Appends a word and a value.
+#[tactic(auto, unfolding(crate::specs::Printed::field))]
+fn push_field(into: &mut String, word: &str, value: &str) -> Result<(), Memory>
+    ensures { OnOk result
+        (string_bytes into.new ≡ string_bytes into.old ++ field word.now value.now) }
+{
+    into.push_str(word)?;
+    into.push_str(value)?;
+    Ok(())
+}
+
+fn push_number(alloc: Global, into: &mut String, word: &str, value: i64) -> Result<(), Memory>
+    ensures { OnOk result (string_bytes into.new ≡ string_bytes into.old ++ field word.now
+        (signed_decimal value)) }
+{
+    let text = value.to_string(alloc)?;
+    push_field(into, word, text.as_str())
+}
+
+#[tactic(auto, unfolding(crate::specs::Printed::line_feed))]
+fn end_line(into: &mut String) -> Result<(), Memory>
+    ensures { OnOk result (string_bytes into.new ≡ string_bytes into.old ++ line_feed) }
+{
+    into.push_str("\n")?;
+    Ok(())
+}
+
+// Appends the line of an entry.
+pub fn push_entry(alloc: Global, into: &mut String, entry: &Entry) -> Result<(), Memory>
+    ensures { OnOk result (string_bytes into.new ≡ string_bytes into.old ++ entry_text entry.now) }
+{
+    match entry {
+        Entry::Connect {
+            connection,
+            session,
+            timeout,
+            password,
+            zxid,
+            now,
+            ..
+        } => {
+            let number = connection.to_string(alloc)?;
+            let password = hex::encode(alloc, password.as_slice())?;
+            push_field(into, "connect ", number.as_str())?;
+            push_number(alloc, into, " session ", *session)?;
+            push_number(alloc, into, " timeout ", *timeout as i64)?;
+            push_field(into, " password ", password.as_str())?;
+            push_number(alloc, into, " zxid ", *zxid)?;
+            push_number(alloc, into, " at ", *now)?;
+            end_line(into)?;
+            Ok(())
+        }
+        Entry::Take {
+            connection,
+            xid,
+            zxid,
+            now,
+            ..
+        } => {
+            let number = connection.to_string(alloc)?;
+            push_field(into, "take ", number.as_str())?;
+            push_number(alloc, into, " xid ", *xid as i64)?;
+            push_number(alloc, into, " zxid ", *zxid)?;
+            push_number(alloc, into, " at ", *now)?;
+            end_line(into)?;
+            Ok(())
+        }
+    }
+}
+
+/// Appends what is printed of an order.
+pub fn push_order(alloc: Global, into: &mut String, order: &[Entry]) -> Result<(), Memory>
+    ensures { OnOk result (string_bytes into.new ≡ string_bytes into.old ++ order_text order.now) }
+{
+    let count = order.len().to_string(alloc)?;
+    push_line(into, "order ", count.as_str())?;
+    push_entries(alloc, into, order)
+}
+
+fn push_entries(alloc: Global, into: &mut String, order: &[Entry]) -> Result<(), Memory>
+    ensures { OnOk result
+        (string_bytes into.new ≡ string_bytes into.old ++ entries_text order.now) }
+{
+    for entry in order {
+        push_entry(alloc, into, entry)?;
+    }
+    Ok(())
+}
