@@ -1,0 +1,4 @@
+pub mod Parts
+pub mod Decided
+pub mod Opened
+pub mod Judged

@@ -1,0 +1,4 @@
+pub mod Ivs
+pub mod Payload
+pub mod Flaws
+pub mod Laws

@@ -1,0 +1,107 @@
+//! The IVs of the payloads that one connection seals.
+
+ghost use Rattle.std.specs.Prelude.{◌≡◌, ◌+◌, ◌≤◌, ◌<◌, ◌^◌, ◌↔◌, IfOk, OnOk, OnErr, IsErr};
+ghost use Rattle.payload_seal.specs.Ivs.{payload_iv};
+
+use std::marker::Model;
+use thiserror::Error;
+
+/// How many payloads a connection seals at most.
+const PAYLOADS: u64 = 4_294_967_296;
+
+/// Every IV of a connection was given.
+#[derive(Clone, Copy, Debug, Drop, PartialEq, Eq, Error)]
+#[error("every IV of the connection was given")]
+pub struct Spent;
+
+/// Gives the IVs of one connection in turn, each once.
+///
+/// It is not `Copy`: two copies would give the same IVs.
+#[derive(Debug, Drop)]
+pub struct IvSource {
+    boot: u32,
+    connection: u32,
+    count: u64,
+}
+
+impl Model for IvSource {
+    ghost use Rattle.payload_seal.specs.Ivs.{Ivs, AreIvs};
+
+    ghost Value = { Ivs };
+
+    ghost view = { λ s. record { boot = s.boot; connection = s.connection; count = s.count } };
+
+    ghost invariant = { λ s. AreIvs (record { boot = s.boot; connection = s.connection; count = s.count }) };
+}
+
+// The IV of the payload with this number.
+fn iv_of(boot: u32, connection: u32, number: u32) -> [u8; 12]
+    ensures { result ≡ payload_iv boot connection number }
+{
+    let boot = boot.to_be_bytes();
+    let connection = connection.to_be_bytes();
+    let number = number.to_be_bytes();
+    [
+        0,
+        boot[1],
+        boot[2],
+        boot[3],
+        connection[0],
+        connection[1],
+        connection[2],
+        connection[3],
+        number[0],
+        number[1],
+        number[2],
+        number[3],
+    ]
+}
+
+impl IvSource {
+    /// The source of a connection that has sealed nothing. Takes no memory.
+    pub fn new(boot: u32, connection: u32) -> IvSource
+        requires { boot < 2 ^ 24 }
+        ensures { result ≡ record { boot = boot; connection = connection; count = 0 } }
+    {
+        IvSource::starting(boot, connection, 0)
+    }
+
+    /// The source of a connection that has sealed `count` payloads. Takes no memory.
+    pub fn starting(boot: u32, connection: u32, count: u64) -> IvSource
+        requires boot { boot < 2 ^ 24 }
+        requires count { count ≤ 2 ^ 32 }
+        ensures { result ≡ record { boot = boot; connection = connection; count = count } }
+    {
+        IvSource {
+            boot,
+            connection,
+            count,
+        }
+    }
+
+    /// The next IV. Takes no memory.
+    ///
+    /// # Errors
+    ///
+    /// [`Spent`] exactly after 4,294,967,296 payloads. Nothing changes then.
+    pub fn next(&mut self) -> Result<[u8; 12], Spent>
+        ensures iv { IfOk result (λ iv. iv ≡ payload_iv self.old.boot self.old.connection self.old.count) }
+        ensures counted { OnOk result (self.new ≡ record self.old { count = self.old.count + 1 }) }
+        ensures spent { IsErr result ↔ (self.old.count ≡ 2 ^ 32) }
+        ensures unchanged { OnErr result (self.new ≡ self.old) }
+    {
+        if self.count >= PAYLOADS {
+            return Err(Spent);
+        }
+        let iv = iv_of(self.boot, self.connection, self.count as u32);
+        self.count += 1;
+        Ok(iv)
+    }
+
+    /// How many IVs are left. Takes no memory.
+    pub fn left(&self) -> u64
+        ensures { result + self.now.count ≡ 2 ^ 32 }
+    {
+        PAYLOADS - self.count
+    }
+}
