@@ -4,4 +4,5 @@ pub mod Laws
 pub mod Records
 pub mod Whole
 pub mod Frames
+pub mod Lists
 pub mod Faults

@@ -93,6 +93,13 @@ impl<'a> Cursor<'a> {
         self.place
     }
 
+    /// The bytes that are left.
+    pub fn rest(&self) -> &'a [u8]
+        ensures { result.now ≡ self.now.left }
+    {
+        self.left
+    }
+
     // A refusal at the present place.
     fn refuse<T>(&self, reason: Reason) -> Result<T, Refusal>
         ensures { result ≡ Err (record { place = self.now.place; reason = reason }) }

@@ -1,8 +1,8 @@
 //! Spellings and refusals as the encoding's description has them, worked by hand.
 
 use crate::{
-    Bytes, Cursor, Reason, Refusal, Text, Texts, put_bool, put_buffer, put_bytes, put_count,
-    put_int, put_long, put_ustring, read_bytes, read_text,
+    Bytes, Cursor, NotRead, Reason, Refusal, Text, Texts, put_bool, put_buffer, put_bytes,
+    put_count, put_int, put_long, put_texts, put_ustring, read_bytes, read_text, read_texts,
 };
 use std::test::Fail;
 
@@ -130,4 +130,47 @@ fn lends_the_items_of_a_list(rt: HostRuntime) -> Result<(), Fail> {
     assert!(rt; texts.get(0).is_some_and(|t| t.as_str() == "ab"));
     assert!(rt; texts.get(1).is_none());
     Ok(())
+}
+
+#[test]
+fn a_list_of_texts_is_read_and_written_back(rt: HostRuntime) -> Result<(), Fail> {
+    let table: [&[u8]; 3] = [
+        b"\xff\xff\xff\xff",
+        b"\0\0\0\0",
+        b"\0\0\0\x02\0\0\0\x02/a\0\0\0\0",
+    ];
+    for (index, body) in table.iter().enumerate() {
+        assert!(rt; body.len() < 100);
+        let mut cursor = Cursor::new(body);
+        let texts = read_texts(rt.alloc(), &mut cursor)?;
+        cursor.end()?;
+        assert_eq!(rt; texts.is_none(), index == 0);
+        let mut items = Vec::new(rt.alloc());
+        if index == 2 {
+            items.push(Text::copy_of(rt.alloc(), "/a")?)?;
+            items.push(Text::copy_of(rt.alloc(), "")?)?;
+        }
+        let list = if index == 0 {
+            None
+        } else {
+            Some(Texts::of(items))
+        };
+        let mut into = Vec::new(rt.alloc());
+        put_texts(&mut into, &list)?;
+        assert_eq!(rt; into.as_slice(), *body);
+    }
+    Ok(())
+}
+
+// It has no memory for two thousand million texts, and needs none.
+#[test]
+fn a_count_takes_no_memory(rt: HostRuntime) {
+    let mut cursor = Cursor::new(b"\x7f\xff\xff\xff\0\0\0");
+    let refusal = Refusal {
+        place: 4,
+        reason: Reason::Short,
+    };
+    let texts = read_texts(rt.alloc(), &mut cursor);
+    assert_eq!(rt; texts.err(), Some(NotRead::Refused(refusal)));
+    assert_eq!(rt; cursor.place(), 0);
 }
