@@ -1,0 +1,41 @@
+-- Laws of messages: a body is one message or none, and is spelled in one way, and a body that is a message is not refused.
+use Rattle.std.specs.Prelude.{◌≡◌, ℕ, ℤ, List}
+use Rattle.jute_core.specs.declared.cursor.Reason.{Reason}
+use Rattle.zk_messages.specs.Requests.{SpellsRequest, RefusedRequest}
+use Rattle.zk_messages.specs.Replies.{SpellsReply, RefusedReply, SpellsEvent, RefusedEvent}
+use Rattle.zk_messages.specs.declared.request.Request.{Request}
+use Rattle.zk_messages.specs.declared.reply.Reply.{Reply}
+use Rattle.zk_messages.specs.declared.reply.Event.{Event}
+use Rattle.zk_messages.specs.declared.reply.Shape.{Shape}
+
+-- a body is one request
+abbrev pub IsOneRequest : List ℕ → Type 0
+IsOneRequest body = (x y : ℤ) (r s : Request) → SpellsRequest x r body → SpellsRequest y s body → (x ≡ y) × (r ≡ s)
+
+-- which is spelled in one way
+abbrev pub HasOneSpelling : ℤ → Request → Type 0
+HasOneSpelling xid r = (a b : List ℕ) → SpellsRequest xid r a → SpellsRequest xid r b → a ≡ b
+
+-- a body is read or refused, never both
+abbrev pub IsRequestOrRefused : List ℕ → Type 0
+IsRequestOrRefused body = (xid : ℤ) (r : Request) (place : ℕ) (reason : Reason) → SpellsRequest xid r body → RefusedRequest body place reason → ⊥
+
+-- the same of replies
+abbrev pub IsOneReply : Shape → List ℕ → Type 0
+IsOneReply shape body = (r s : Reply) → SpellsReply shape r body → SpellsReply shape s body → r ≡ s
+
+abbrev pub HasOneReplySpelling : Shape → Reply → Type 0
+HasOneReplySpelling shape r = (a b : List ℕ) → SpellsReply shape r a → SpellsReply shape r b → a ≡ b
+
+abbrev pub IsReplyOrRefused : Shape → List ℕ → Type 0
+IsReplyOrRefused shape body = (r : Reply) (place : ℕ) (reason : Reason) → SpellsReply shape r body → RefusedReply shape body place reason → ⊥
+
+-- and of events
+abbrev pub IsOneEvent : List ℕ → Type 0
+IsOneEvent body = (e f : Event) → SpellsEvent e body → SpellsEvent f body → e ≡ f
+
+abbrev pub HasOneEventSpelling : Event → Type 0
+HasOneEventSpelling e = (a b : List ℕ) → SpellsEvent e a → SpellsEvent e b → a ≡ b
+
+abbrev pub IsEventOrRefused : List ℕ → Type 0
+IsEventOrRefused body = (e : Event) (place : ℕ) (reason : Reason) → SpellsEvent e body → RefusedEvent body place reason → ⊥

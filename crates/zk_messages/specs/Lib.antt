@@ -1,0 +1,11 @@
+pub mod Kinds
+pub mod Reading
+pub mod Multi
+pub mod Results
+pub mod Forms
+pub mod Requests
+pub mod Replies
+pub mod Sending
+pub mod Items
+pub mod Sent
+pub mod Laws

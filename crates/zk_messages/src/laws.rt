@@ -1,0 +1,32 @@
+//! Laws of messages. Each is the contract of a function that does nothing, so that whoever needs
+//! one can cite it.
+
+ghost use Rattle.std.specs.Prelude.{ℕ, ℤ, List};
+ghost use Rattle.zk_messages.specs.Laws.{IsOneRequest, HasOneSpelling, IsRequestOrRefused};
+ghost use Rattle.zk_messages.specs.Laws.{IsOneReply, HasOneReplySpelling, IsReplyOrRefused};
+ghost use Rattle.zk_messages.specs.Laws.{IsOneEvent, HasOneEventSpelling, IsEventOrRefused};
+ghost use Rattle.zk_messages.specs.declared.request.Request.{Request};
+ghost use Rattle.zk_messages.specs.declared.reply.Reply.{Reply};
+ghost use Rattle.zk_messages.specs.declared.reply.Event.{Event};
+ghost use Rattle.zk_messages.specs.declared.reply.Shape.{Shape};
+
+/// A body is one request with one xid, spelled in one way, or it is refused.
+pub fn one_request()
+    ensures one { (body : List ℕ) → IsOneRequest body }
+    ensures spelling { (xid : ℤ) (r : Request) → HasOneSpelling xid r }
+    ensures or_refused { (body : List ℕ) → IsRequestOrRefused body }
+{}
+
+/// In each shape a body is one reply, spelled in one way, or it is refused.
+pub fn one_reply()
+    ensures one { (shape : Shape) (body : List ℕ) → IsOneReply shape body }
+    ensures spelling { (shape : Shape) (r : Reply) → HasOneReplySpelling shape r }
+    ensures or_refused { (shape : Shape) (body : List ℕ) → IsReplyOrRefused shape body }
+{}
+
+/// A body is one event, spelled in one way, or it is refused.
+pub fn one_event()
+    ensures one { (body : List ℕ) → IsOneEvent body }
+    ensures spelling { (e : Event) → HasOneEventSpelling e }
+    ensures or_refused { (body : List ℕ) → IsEventOrRefused body }
+{}
