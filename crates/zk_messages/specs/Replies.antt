@@ -42,6 +42,10 @@ HasShape shapes.Children2 (outcomes.Children2 names s) = Unit {0}
 HasShape shapes.Multi (outcomes.Multi list) = Unit {0}
 HasShape shape outcome = ⊥
 
+-- the bytes are this outcome, in each shape that it has
+abbrev pub IsOutcome : Outcome → List ℕ → Type 0
+IsOutcome outcome b = (shape : Shape) → HasShape shape outcome → SpellsOutcome shape outcome b
+
 -- the code in the header
 abbrev pub err_of : Outcome → ℤ
 err_of (outcomes.Error code) = code
@@ -54,6 +58,9 @@ pub record SpellsReply (shape : Shape) (r : Reply) (body : List ℕ) : Type 0 wh
   pub head : Spells reply_header (r.xid, (r.zxid, err_of r.outcome)) header
   pub tail : SpellsOutcome shape r.outcome rest
   pub cut : body ≡ header ++ rest
+
+abbrev pub IsReply : Reply → List ℕ → Type 0
+IsReply r body = (shape : Shape) → HasShape shape r.outcome → SpellsReply shape r body
 
 -- what is wrong behind the header: nothing follows an error
 abbrev pub IsBadOutcome : Shape → ℤ → List ℕ → ℕ → Reason → Type 0

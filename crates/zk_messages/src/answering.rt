@@ -1,14 +1,14 @@
 //! Reading and writing replies and events.
 
 ghost use Rattle.std.specs.Prelude.{◌≡◌, ◌<◌, ◌^◌, pos, negsuc, length, IfOk, IfErr, OnOk, OnErr};
-ghost use Rattle.jute_core.specs.Jute.{Refused, int};
+ghost use Rattle.jute_core.specs.Jute.{Refused, int, long};
 ghost use Rattle.jute_core.specs.Position.{Adds, Grows, Passes};
 ghost use Rattle.jute_core.specs.Records.{ReadsOrMemory};
 ghost use Rattle.zk_records.specs.Headers.{reply_header};
 ghost use Rattle.zk_messages.specs.Forms.{RefusedFront, form_of_shape};
 ghost use Rattle.zk_messages.specs.Reading.{Reaches, FailsAt, FailsBody};
-ghost use Rattle.zk_messages.specs.Replies.{SpellsOutcome, SpellsReply, RefusedReply, HasShape, err_of};
-ghost use Rattle.zk_messages.specs.Replies.{event_record, event_fields, SpellsEvent, RefusedEvent, IsWrongHeader, BeginsWithInt};
+ghost use Rattle.zk_messages.specs.Replies.{SpellsOutcome, SpellsReply, RefusedReply, IsOutcome, IsReply, err_of};
+ghost use Rattle.zk_messages.specs.Replies.{event_record, event_fields, SpellsEvent, RefusedEvent, IsWrong, IsRight, IsWrongHeader, BeginsWithInt};
 ghost use Rattle.zk_messages.specs.Sending.{AddsBytes, IsShortOutcome};
 ghost use Rattle.zk_messages.specs.declared.reply.Shape.{Shape};
 
@@ -34,7 +34,7 @@ pub fn reply_xid(body: &[u8]) -> Result<i32, Refusal>
     Cursor::new(body).int()
 }
 
-#[tactic(auto, using(jute_core::proofs::Glue::glue))]
+#[tactic(auto, using(jute_core::proofs::Glue::glue, crate::proofs::Replies::outcomes_read))]
 fn read_content(alloc: Global, cursor: &mut Cursor<'_>) -> Result<Outcome, NotRead>
     ensures ok { IfOk result (λ outcome. Reaches cursor.old cursor.new (SpellsOutcome Shape.Content outcome)) }
     ensures done { IfOk result (λ outcome. err_of outcome ≡ pos 0) }
@@ -45,7 +45,7 @@ fn read_content(alloc: Global, cursor: &mut Cursor<'_>) -> Result<Outcome, NotRe
     Ok(Outcome::Content { content, stat })
 }
 
-#[tactic(auto, using(jute_core::proofs::Glue::glue))]
+#[tactic(auto, using(jute_core::proofs::Glue::glue, crate::proofs::Replies::outcomes_read))]
 fn read_acls_of(alloc: Global, cursor: &mut Cursor<'_>) -> Result<Outcome, NotRead>
     ensures ok { IfOk result (λ outcome. Reaches cursor.old cursor.new (SpellsOutcome Shape.Acls outcome)) }
     ensures done { IfOk result (λ outcome. err_of outcome ≡ pos 0) }
@@ -56,7 +56,7 @@ fn read_acls_of(alloc: Global, cursor: &mut Cursor<'_>) -> Result<Outcome, NotRe
     Ok(Outcome::Acls { acls, stat })
 }
 
-#[tactic(auto, using(jute_core::proofs::Glue::glue))]
+#[tactic(auto, using(jute_core::proofs::Glue::glue, crate::proofs::Replies::outcomes_read))]
 fn read_children2(alloc: Global, cursor: &mut Cursor<'_>) -> Result<Outcome, NotRead>
     ensures ok { IfOk result (λ outcome. Reaches cursor.old cursor.new (SpellsOutcome Shape.Children2 outcome)) }
     ensures done { IfOk result (λ outcome. err_of outcome ≡ pos 0) }
@@ -68,6 +68,7 @@ fn read_children2(alloc: Global, cursor: &mut Cursor<'_>) -> Result<Outcome, Not
 }
 
 // The outcome of a request that is no error.
+#[tactic(auto, using(jute_core::proofs::Glue::glue, crate::proofs::Replies::outcomes_read))]
 fn read_outcome(alloc: Global, shape: Shape, cursor: &mut Cursor<'_>) -> Result<Outcome, NotRead>
     ensures ok { IfOk result (λ outcome. Reaches cursor.old cursor.new (SpellsOutcome shape outcome)) }
     ensures done { IfOk result (λ outcome. err_of outcome ≡ pos 0) }
@@ -93,6 +94,7 @@ fn read_outcome(alloc: Global, shape: Shape, cursor: &mut Cursor<'_>) -> Result<
 /// results of a multi `BadType` at a header whose type is no operation, and `BadHeader` at a field
 /// of one that is neither (type, 0, 0) nor (-1, 0, code) nor the end (-1, 1, -1), or at a code that
 /// is not its header's.
+#[tactic(auto, using(crate::proofs::Replies::replies_read))]
 pub fn read_reply(alloc: Global, shape: Shape, body: &[u8]) -> Result<Reply, NotRead>
     requires { length body.now < 2 ^ 32 }
     ensures read { IfOk result (λ reply. SpellsReply shape reply body.now) }
@@ -112,9 +114,10 @@ pub fn read_reply(alloc: Global, shape: Shape, body: &[u8]) -> Result<Reply, Not
 }
 
 // Without memory a part of it may be there.
+#[tactic(auto, using(jute_core::proofs::Glue::glue, crate::proofs::Replies::outcomes_added))]
 fn put_outcome(outcome: &Outcome, into: &mut Vec<u8>) -> Result<(), Memory>
     requires { IsShortOutcome outcome.now }
-    ensures ok { OnOk result (AddsBytes into.old.items into.new.items (λ b. (shape : Shape) → HasShape shape outcome.now → SpellsOutcome shape outcome.now b)) }
+    ensures ok { OnOk result (AddsBytes into.old.items into.new.items (IsOutcome outcome.now)) }
     ensures err { OnErr result (Grows into.old.items into.new.items) }
 {
     match outcome {
@@ -150,9 +153,10 @@ fn err_of(outcome: &Outcome) -> i32
 }
 
 // Without memory a part of it may be there.
+#[tactic(auto, using(jute_core::proofs::Glue::glue, crate::proofs::Replies::reply_added))]
 fn put_reply(reply: &Reply, into: &mut Vec<u8>) -> Result<(), Memory>
     requires { IsShortOutcome reply.now.outcome }
-    ensures ok { OnOk result (AddsBytes into.old.items into.new.items (λ b. (shape : Shape) → HasShape shape reply.now.outcome → SpellsReply shape reply.now b)) }
+    ensures ok { OnOk result (AddsBytes into.old.items into.new.items (IsReply reply.now)) }
     ensures err { OnErr result (Grows into.old.items into.new.items) }
 {
     let header = ReplyHeader {
@@ -168,7 +172,7 @@ fn put_reply(reply: &Reply, into: &mut Vec<u8>) -> Result<(), Memory>
 /// an error is not 0, and lengths and counts fit an i32.
 pub fn write_reply(reply: &Reply, into: &mut Vec<u8>) -> Result<(), Memory>
     requires { IsShortOutcome reply.now.outcome }
-    ensures ok { OnOk result (AddsBytes into.old.items into.new.items (λ b. (shape : Shape) → HasShape shape reply.now.outcome → SpellsReply shape reply.now b)) }
+    ensures ok { OnOk result (AddsBytes into.old.items into.new.items (IsReply reply.now)) }
     ensures err { OnErr result (into.new.items ≡ into.old.items) }
 {
     let before = into.len();
@@ -179,24 +183,32 @@ pub fn write_reply(reply: &Reply, into: &mut Vec<u8>) -> Result<(), Memory>
     put
 }
 
-// The header (-1, -1, 0), of which each field is judged as it is read.
-fn read_event_header(cursor: &mut Cursor<'_>) -> Result<(), NotRead>
-    ensures ok { OnOk result (Passes cursor.old cursor.new reply_header (negsuc 0, (negsuc 0, pos 0))) }
-    ensures refused { IfErr result (FailsAt cursor.old IsWrongHeader) }
+// An int that has to be this one.
+fn expect_int(cursor: &mut Cursor<'_>, wanted: i32) -> Result<(), NotRead>
+    ensures ok { OnOk result (Passes cursor.old cursor.new int wanted) }
+    ensures refused { IfErr result (FailsAt cursor.old (IsWrong int wanted IsRight)) }
 {
     let place = cursor.place();
-    if cursor.int()? != -1 {
-        return Err(bad_header(place));
+    let found = cursor.int()?;
+    if found == wanted {
+        Ok(())
+    } else {
+        Err(bad_header(place))
     }
+}
+
+// A long that has to be this one.
+fn expect_long(cursor: &mut Cursor<'_>, wanted: i64) -> Result<(), NotRead>
+    ensures ok { OnOk result (Passes cursor.old cursor.new long wanted) }
+    ensures refused { IfErr result (FailsAt cursor.old (IsWrong long wanted IsRight)) }
+{
     let place = cursor.place();
-    if cursor.long()? != -1 {
-        return Err(bad_header(place));
+    let found = cursor.long()?;
+    if found == wanted {
+        Ok(())
+    } else {
+        Err(bad_header(place))
     }
-    let place = cursor.place();
-    if cursor.int()? != 0 {
-        return Err(bad_header(place));
-    }
-    Ok(())
 }
 
 fn bad_header(place: u32) -> NotRead
@@ -206,6 +218,18 @@ fn bad_header(place: u32) -> NotRead
         place,
         reason: Reason::BadHeader,
     })
+}
+
+// The header (-1, -1, 0), of which each field is judged as it is read.
+#[tactic(auto, using(jute_core::proofs::Glue::glue, crate::proofs::Events::header_wrong))]
+fn read_event_header(cursor: &mut Cursor<'_>) -> Result<(), NotRead>
+    ensures ok { OnOk result (Passes cursor.old cursor.new reply_header (negsuc 0, (negsuc 0, pos 0))) }
+    ensures refused { IfErr result (FailsAt cursor.old IsWrongHeader) }
+{
+    expect_int(cursor, -1)?;
+    expect_long(cursor, -1)?;
+    expect_int(cursor, 0)?;
+    Ok(())
 }
 
 #[tactic(auto, using(jute_core::proofs::Glue::glue))]
@@ -225,6 +249,7 @@ fn read_event_fields(alloc: Global, cursor: &mut Cursor<'_>) -> Result<Event, No
 /// # Errors
 /// `BadHeader` at the first field of the header that is not as in (-1, -1, 0), also where the fields
 /// behind it are lacking; else the refusal of the first field that fails, or `Trailing`.
+#[tactic(auto, using(crate::proofs::Events::event_wrong))]
 pub fn read_event(alloc: Global, body: &[u8]) -> Result<Event, NotRead>
     requires { length body.now < 2 ^ 32 }
     ensures read { IfOk result (λ event. SpellsEvent event body.now) }
@@ -238,6 +263,7 @@ pub fn read_event(alloc: Global, body: &[u8]) -> Result<Event, NotRead>
 }
 
 // The header and the fields. Without memory a part of it may be there.
+#[tactic(auto, using(jute_core::proofs::Glue::glue, crate::proofs::Replies::event_added))]
 fn put_event(event: &Event, into: &mut Vec<u8>) -> Result<(), Memory>
     requires { length event.now.path < 2 ^ 31 }
     ensures ok { OnOk result (AddsBytes into.old.items into.new.items (SpellsEvent event.now)) }

@@ -33,6 +33,7 @@ fn may_have(header: RequestHeader) -> bool
 }
 
 // What follows the header, but for the body of auth.
+#[tactic(auto, using(crate::proofs::Requests::fields_are_read))]
 fn read_fields(alloc: Global, kind: Kind, cursor: &mut Cursor<'_>) -> Result<Request, NotRead>
     requires { kind ≢ Kind.Auth }
     ensures kind { IfOk result (λ r. kind_of r ≡ Some kind) }
@@ -59,6 +60,7 @@ fn read_fields(alloc: Global, kind: Kind, cursor: &mut Cursor<'_>) -> Result<Req
 }
 
 // All that follows the header.
+#[tactic(auto, using(crate::proofs::Requests::bodies_read))]
 fn read_body(alloc: Global, kind: Kind, cursor: &mut Cursor<'_>) -> Result<Request, NotRead>
     ensures kind { IfOk result (λ r. kind_of r ≡ Some kind) }
     ensures ok { IfOk result (λ r. SpellsForm (form_of_any (kind_of r)) (fields_of r) cursor.old.left) }
@@ -81,6 +83,7 @@ fn read_body(alloc: Global, kind: Kind, cursor: &mut Cursor<'_>) -> Result<Reque
 /// `BadXid` at 0 exactly where the xid is -1, or is -2 and the request is no ping. In a multi
 /// `BadType` at a header whose type is no operation, and `BadHeader` at a field of one that is
 /// neither (type, 0, -1) nor the end (-1, 1, -1).
+#[tactic(auto, using(crate::proofs::Requests::requests_read))]
 pub fn read_request(alloc: Global, body: &[u8]) -> Result<(i32, Request), NotRead>
     requires { length body.now < 2 ^ 32 }
     ensures read { IfOk result (λ read. SpellsRequest read.0 read.1 body.now) }
@@ -117,6 +120,7 @@ fn number_of(request: &Request) -> i32
 }
 
 // What follows the header. Without memory a part of it may be there.
+#[tactic(auto, using(jute_core::proofs::Glue::glue, crate::proofs::Requests::fields_are_added))]
 fn put_fields(request: &Request, into: &mut Vec<u8>) -> Result<(), Memory>
     requires { IsShortRequest request.now }
     ensures ok { OnOk result (AddsBytes into.old.items into.new.items
@@ -153,6 +157,7 @@ fn put_unread(body: &Bytes, into: &mut Vec<u8>) -> Result<(), Memory>
 }
 
 // Without memory a part of it may be there.
+#[tactic(auto, using(jute_core::proofs::Glue::glue, crate::proofs::Requests::request_added))]
 fn put_request(xid: i32, request: &Request, into: &mut Vec<u8>) -> Result<(), Memory>
     requires known { IsKind (number_of request.now) (kind_of request.now) }
     requires may { MayHave xid (number_of request.now) }
