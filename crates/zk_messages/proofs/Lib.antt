@@ -1,0 +1,2 @@
+pub mod MultiLemmas
+pub mod Reaching
