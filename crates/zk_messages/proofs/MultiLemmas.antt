@@ -7,7 +7,8 @@ use Rattle.jute_core.specs.Records.{Fails}
 use Rattle.jute_core.specs.declared.not_read.NotRead.{NotRead}
 use Rattle.jute_core.specs.declared.not_read.NotRead.TheVariants.{Refused, Memory}
 use Rattle.jute_core.proofs.Glue.{pass_then, add_then}
-use Rattle.zk_records.specs.Stats.{stat}
+use Rattle.zk_records.specs.Stats.{stat, stat_fields}
+use Rattle.zk_records.specs.declared.stat.Stat.{Stat}
 use Rattle.zk_messages.specs.Kinds.{op_number, op_kind_of}
 use Rattle.zk_messages.specs.Multi.{multi_header, op_record, op_fields, result_record, IsHeader, IsBadOp, IsBadResult, RefusedIfAny, SpellsOp, SpellsResult, RefusedOp, RefusedResult}
 use Rattle.zk_messages.specs.Reading.{Reaches, FailsAt}
@@ -134,3 +135,23 @@ unfolding SpellsOp
 add_op op a b c head p =
     let own = subst (λ (n : ℤ). Adds a b multi_header (n, (false, negsuc 0))) (number_bits (op_kind_of op)) head in
     add_as (pair multi_header (op_record (op_kind_of op))) _ a c (add_then multi_header (op_record (op_kind_of op)) _ _ a b c own p)
+
+pub add_created : (path : List ℕ) (a b c : List ℕ) → Adds a b multi_header (pos 1, (false, pos 0)) → Adds b c ustring path → AddsBytes a c (SpellsResult (op_results.Created path))
+unfolding SpellsResult
+add_created path a b c head p = add_as (pair multi_header ustring) _ a c (add_then multi_header ustring _ _ a b c head p)
+
+pub add_deleted : (a b : List ℕ) → Adds a b multi_header (pos 2, (false, pos 0)) → AddsBytes a b (SpellsResult op_results.Deleted)
+unfolding SpellsResult
+add_deleted a b head = add_as multi_header _ a b head
+
+pub add_changed : (s : Stat) (a b c : List ℕ) → Adds a b multi_header (pos 5, (false, pos 0)) → Adds b c stat (stat_fields s) → AddsBytes a c (SpellsResult (op_results.Changed s))
+unfolding SpellsResult
+add_changed s a b c head p = add_as (pair multi_header stat) _ a c (add_then multi_header stat _ _ a b c head p)
+
+pub add_checked : (a b : List ℕ) → Adds a b multi_header (pos 13, (false, pos 0)) → AddsBytes a b (SpellsResult op_results.Checked)
+unfolding SpellsResult
+add_checked a b head = add_as multi_header _ a b head
+
+pub add_error : (code : ℤ) (a b : List ℕ) → Adds a b (pair multi_header int) ((negsuc 0, (false, code)), code) → AddsBytes a b (SpellsResult (op_results.Error code))
+unfolding SpellsResult
+add_error code a b p = add_as (pair multi_header int) _ a b p

@@ -181,7 +181,8 @@ pub(crate) fn put_ops(ops: &[Op], into: &mut Vec<u8>) -> Result<(), Memory>
     for op in ops {
         put_op(op, into)?;
     }
-    END.put(into)
+    END.put(into)?;
+    Ok(())
 }
 
 // The code of an error, which stands again behind its header.
@@ -280,6 +281,7 @@ fn put_error(code: i32, into: &mut Vec<u8>) -> Result<(), Memory>
 }
 
 // Without memory a part of it may be there.
+#[tactic(auto, using(jute_core::proofs::Glue::glue))]
 fn put_result(value: &OpResult, into: &mut Vec<u8>) -> Result<(), Memory>
     requires { IsShortResult value.now }
     ensures ok { OnOk result (AddsBytes into.old.items into.new.items (SpellsResult value.now)) }
@@ -288,16 +290,17 @@ fn put_result(value: &OpResult, into: &mut Vec<u8>) -> Result<(), Memory>
     match value {
         OpResult::Created(path) => {
             put_done(OpKind::Create, into)?;
-            put_ustring(into, path.as_str())
+            put_ustring(into, path.as_str())?;
         }
-        OpResult::Deleted => put_done(OpKind::Delete, into),
+        OpResult::Deleted => put_done(OpKind::Delete, into)?,
         OpResult::Changed(stat) => {
             put_done(OpKind::SetContent, into)?;
-            stat.write(into)
+            stat.write(into)?;
         }
-        OpResult::Checked => put_done(OpKind::Check, into),
-        OpResult::Error { code } => put_error(*code, into),
+        OpResult::Checked => put_done(OpKind::Check, into)?,
+        OpResult::Error { code } => put_error(*code, into)?,
     }
+    Ok(())
 }
 
 /// The results of a multi, and the end. Without memory a part of it may be there.
@@ -309,5 +312,6 @@ pub(crate) fn put_results(results: &[OpResult], into: &mut Vec<u8>) -> Result<()
     for value in results {
         put_result(value, into)?;
     }
-    END.put(into)
+    END.put(into)?;
+    Ok(())
 }
