@@ -1,3 +1,5 @@
 pub mod Events
+pub mod MultiLemmas
+pub mod Reaching
 pub mod Replies
 pub mod Requests

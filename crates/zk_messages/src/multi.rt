@@ -2,7 +2,7 @@
 
 ghost use Rattle.std.specs.Prelude.{◌≡◌, pos, negsuc, ◌+◌, ◌<◌, ◌^◌, length, false, All, IfOk, IfErr, IfSome, IfNone, OnOk, OnErr};
 ghost use Rattle.jute_core.specs.Jute.{int, pair};
-ghost use Rattle.jute_core.specs.Position.{Adds, Grows, Passes};
+ghost use Rattle.jute_core.specs.Position.{Adds, Appends, Grows, Passes};
 ghost use Rattle.jute_core.specs.Records.{Fails, ReadsOrMemory};
 ghost use Rattle.zk_messages.specs.Kinds.{op_number, op_kind_of};
 ghost use Rattle.zk_messages.specs.Multi.{multi_header, multi_header_fields, op_record, op_fields, result_record, IsEnd, IsBadMark, IsBadRepeat, RefusedIfAny};
@@ -47,11 +47,14 @@ impl MultiHeader {
     fn read(cursor: &mut Cursor<'_>) -> Result<MultiHeader, NotRead>
         ensures reads { ReadsOrMemory cursor.old cursor.new multi_header multi_header_fields result }
         ensures moved { OnOk result (cursor.new.place ≡ cursor.old.place + 9) }
+        ensures fits { OnOk result (cursor.old.place + 9 < 2 ^ 32) }
     {
         let mut ahead = cursor.copy();
         let kind = ahead.int()?;
         let done = ahead.boolean()?;
         let err = ahead.int()?;
+        // Its range is the clause `fits`.
+        let _behind = ahead.place();
         *cursor = ahead;
         Ok(MultiHeader { kind, done, err })
     }
@@ -139,7 +142,21 @@ pub(crate) fn read_ops(alloc: Global, cursor: &mut Cursor<'_>) -> Result<Ops, No
     Ok(Ops::of(ops))
 }
 
+// The record of an operation.
+fn put_record(op: &Op, into: &mut Vec<u8>) -> Result<(), Memory>
+    requires { IsShortOp op.now }
+    ensures { Appends into.old.items into.new.items (op_record (op_kind_of op.now)) (op_fields op.now) result }
+{
+    match op {
+        Op::Create(request) => request.write(into),
+        Op::Delete(request) => request.write(into),
+        Op::SetContent(request) => request.write(into),
+        Op::Check(request) => request.write(into),
+    }
+}
+
 // Without memory a part of it may be there.
+#[tactic(auto, using(jute_core::proofs::Glue::glue))]
 fn put_op(op: &Op, into: &mut Vec<u8>) -> Result<(), Memory>
     requires { IsShortOp op.now }
     ensures ok { OnOk result (AddsBytes into.old.items into.new.items (SpellsOp op.now)) }
@@ -151,12 +168,8 @@ fn put_op(op: &Op, into: &mut Vec<u8>) -> Result<(), Memory>
         err: NONE,
     };
     header.put(into)?;
-    match op {
-        Op::Create(request) => request.write(into),
-        Op::Delete(request) => request.write(into),
-        Op::SetContent(request) => request.write(into),
-        Op::Check(request) => request.write(into),
-    }
+    put_record(op, into)?;
+    Ok(())
 }
 
 /// The operations of a multi, and the end. Without memory a part of it may be there.
@@ -168,7 +181,8 @@ pub(crate) fn put_ops(ops: &[Op], into: &mut Vec<u8>) -> Result<(), Memory>
     for op in ops {
         put_op(op, into)?;
     }
-    END.put(into)
+    END.put(into)?;
+    Ok(())
 }
 
 // The code of an error, which stands again behind its header.
@@ -267,6 +281,7 @@ fn put_error(code: i32, into: &mut Vec<u8>) -> Result<(), Memory>
 }
 
 // Without memory a part of it may be there.
+#[tactic(auto, using(jute_core::proofs::Glue::glue))]
 fn put_result(value: &OpResult, into: &mut Vec<u8>) -> Result<(), Memory>
     requires { IsShortResult value.now }
     ensures ok { OnOk result (AddsBytes into.old.items into.new.items (SpellsResult value.now)) }
@@ -275,16 +290,17 @@ fn put_result(value: &OpResult, into: &mut Vec<u8>) -> Result<(), Memory>
     match value {
         OpResult::Created(path) => {
             put_done(OpKind::Create, into)?;
-            put_ustring(into, path.as_str())
+            put_ustring(into, path.as_str())?;
         }
-        OpResult::Deleted => put_done(OpKind::Delete, into),
+        OpResult::Deleted => put_done(OpKind::Delete, into)?,
         OpResult::Changed(stat) => {
             put_done(OpKind::SetContent, into)?;
-            stat.write(into)
+            stat.write(into)?;
         }
-        OpResult::Checked => put_done(OpKind::Check, into),
-        OpResult::Error { code } => put_error(*code, into),
+        OpResult::Checked => put_done(OpKind::Check, into)?,
+        OpResult::Error { code } => put_error(*code, into)?,
     }
+    Ok(())
 }
 
 /// The results of a multi, and the end. Without memory a part of it may be there.
@@ -296,5 +312,6 @@ pub(crate) fn put_results(results: &[OpResult], into: &mut Vec<u8>) -> Result<()
     for value in results {
         put_result(value, into)?;
     }
-    END.put(into)
+    END.put(into)?;
+    Ok(())
 }
