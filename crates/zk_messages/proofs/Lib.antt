@@ -6,3 +6,4 @@ pub mod OneForm
 pub mod OneEvent
 pub mod OneReply
 pub mod OneRequest
+pub mod OnePlace

@@ -9,11 +9,11 @@ use Rattle.zk_messages.proofs.OneMulti.{ops_apart, ops_same, ops_read, results_a
 use Rattle.zk_messages.proofs.OneWriting.{same_bytes}
 
 -- whether the form is read
-abbrev IsRead : Form → Type 0
+abbrev pub IsRead : Form → Type 0
 IsRead unread = ⊥
 IsRead f = Unit {0}
 
-form_apart : (f : Form) → IsRead f → (v w : FormValue f) (a b x y : List ℕ) → SpellsForm f v a → SpellsForm f w b → a ++ x ≡ b ++ y → (v ≡ w) × (a ≡ b) × (x ≡ y)
+pub form_apart : (f : Form) → IsRead f → (v w : FormValue f) (a b x y : List ℕ) → SpellsForm f v a → SpellsForm f w b → a ++ x ≡ b ++ y → (v ≡ w) × (a ≡ b) × (x ≡ y)
 unfolding SpellsForm
 form_apart (fields t) is v w a b x y p q e = one_spelling t v w a b x y p q e
 form_apart nothing is v w a b x y p q e = (refl, p ∙ sym q, ap (λ (l : List ℕ). l ++ x) (sym p) ∙ e ∙ ap (λ (l : List ℕ). l ++ y) q)
@@ -38,13 +38,13 @@ form_same operations v a b p q = ops_same v a b p q
 form_same results v a b p q = results_same v a b p q
 form_same unread v a b p q = p ∙ sym q
 
-front_read : (f : Form) (v : FormValue f) (at : ℕ) (b : List ℕ) (place : ℕ) (reason : Reason) → SpellsForm f v b → RefusedFront f at b place reason → ⊥
+pub front_read : (f : Form) (v : FormValue f) (at : ℕ) (b x y : List ℕ) (place : ℕ) (reason : Reason) → SpellsForm f v b → x ≡ b ++ y → RefusedFront f at x place reason → ⊥
 unfolding SpellsForm
-front_read (fields t) v at b place reason p h = read_or_refused t v at b b [] place reason p (sym (append-nil b)) h
-front_read nothing v at b place reason p h = h
-front_read operations v at b place reason p h = ops_read v at b b [] place reason p (sym (append-nil b)) h
-front_read results v at b place reason p h = results_read v at b b [] place reason p (sym (append-nil b)) h
-front_read unread v at b place reason p h = h
+front_read (fields t) v at b x y place reason p e h = read_or_refused t v at b x y place reason p e h
+front_read nothing v at b x y place reason p e h = h
+front_read operations v at b x y place reason p e h = ops_read v at b x y place reason p e h
+front_read results v at b x y place reason p e h = results_read v at b x y place reason p e h
+front_read unread v at b x y place reason p e h = h
 
 not_followed : (f : Form) → IsRead f → (v : FormValue f) (at : ℕ) (b : List ℕ) (place : ℕ) (reason : Reason) → SpellsForm f v b → IsFollowed f at b place reason → ⊥
 not_followed f is v at b place reason p h =
@@ -53,7 +53,7 @@ not_followed f is v at b place reason p h =
 
 read_not_refused : (f : Form) → IsRead f → (v : FormValue f) (at : ℕ) (b : List ℕ) (place : ℕ) (reason : Reason) → SpellsForm f v b → RefusedFront f at b place reason ⊎ IsFollowed f at b place reason → ⊥
 read_not_refused f is v at b place reason p h = elim h [
-  | inl front ↦ front_read f v at b place reason p front
+  | inl front ↦ front_read f v at b b [] place reason p (sym (append-nil b)) front
   | inr more ↦ not_followed f is v at b place reason p more
 ]
 

@@ -27,21 +27,21 @@ op_numbers kinds.SetContent kinds.SetContent e = refl
 op_numbers kinds.Check kinds.Check e = refl
 op_numbers k l e = absurd (omega (arith, ints, e))
 
-no_number : (k : OpKind) → op_number k ≡ negsuc 0 → ⊥
+pub no_number : (k : OpKind) → op_number k ≡ negsuc 0 → ⊥
 no_number kinds.Create e = omega (arith, ints, e)
 no_number kinds.Delete e = omega (arith, ints, e)
 no_number kinds.SetContent e = omega (arith, ints, e)
 no_number kinds.Check e = omega (arith, ints, e)
 
 -- two headers at the front
-record SameHeaders (k l : ℤ) (d f : Bool) (m n : ℤ) (a b x y : List ℕ) : Type 0 where
-  kind : k ≡ l
-  done : d ≡ f
-  err : m ≡ n
-  bytes : a ≡ b
-  more : x ≡ y
+pub record SameHeaders (k l : ℤ) (d f : Bool) (m n : ℤ) (a b x y : List ℕ) : Type 0 where
+  pub kind : k ≡ l
+  pub done : d ≡ f
+  pub err : m ≡ n
+  pub bytes : a ≡ b
+  pub more : x ≡ y
 
-headers : (k l : ℤ) (d f : Bool) (m n : ℤ) (a b x y : List ℕ) → IsHeader k d m a → IsHeader l f n b → a ++ x ≡ b ++ y → SameHeaders k l d f m n a b x y
+pub headers : (k l : ℤ) (d f : Bool) (m n : ℤ) (a b x y : List ℕ) → IsHeader k d m a → IsHeader l f n b → a ++ x ≡ b ++ y → SameHeaders k l d f m n a b x y
 headers k l d f m n a b x y p q e =
     let r = one_spelling multi_header (k, (d, m)) (l, (f, n)) a b x y p q e in
     record { kind = ap (λ v. v.0) r.0; done = ap (λ v. v.1.0) r.0; err = ap (λ v. v.1.1) r.0; bytes = r.1; more = r.2 }
@@ -97,14 +97,14 @@ op_no_end v a b x y p q e =
     no_number (op_kind_of v) r.kind
 
 -- marks as they have to be are not bad
-good_mark : (wanted : Bool) (n : ℤ) (done : Bool) (err : ℤ) (at place : ℕ) (reason : Reason) → done ≡ wanted → err ≡ n → IsBadMark wanted n done err at place reason → ⊥
+pub good_mark : (wanted : Bool) (n : ℤ) (done : Bool) (err : ℤ) (at place : ℕ) (reason : Reason) → done ≡ wanted → err ≡ n → IsBadMark wanted n done err at place reason → ⊥
 good_mark wanted n done err at place reason d e h = elim h [ inl other ↦ other.0 d | inr bad ↦ bad.1.0 e ]
 
 -- a record that is spelled is not refused, by its type
 op_behind : (k l : OpKind) (v : Value (op_record k)) (at : ℕ) (b x y : List ℕ) (place : ℕ) (reason : Reason) → k ≡ l → Spells (op_record k) v b → x ≡ b ++ y → Refused (op_record l) at x place reason → ⊥
 op_behind k l v at b x y place reason e p f h = read_or_refused (op_record k) v at b x y place reason p f (subst (λ (m : OpKind). Refused (op_record m) at x place reason) (sym e) h)
 
-op_read : AreRead SpellsOp RefusedOp
+pub op_read : AreRead SpellsOp RefusedOp
 unfolding SpellsOp
 op_read v at b x y place reason p e h =
     let o = halves multi_header (op_record (op_kind_of v)) (op_number (op_kind_of v), (false, negsuc 0)) (op_fields v) b p in
@@ -273,7 +273,7 @@ tail_read (op_results.Changed s) kind done err b left y at place reason e d z p 
 tail_read op_results.Checked kind done err b left y at place reason e d z p f h = done_read kinds.Check kind done err left at place reason e d z (λ k. k) h
 tail_read (op_results.Error code) kind done err b left y at place reason e d z p f h = error_read code kind done err b left y at place reason e d z p f h
 
-result_read : AreRead SpellsResult RefusedResult
+pub result_read : AreRead SpellsResult RefusedResult
 result_read v at b x y place reason p e h =
     let o = result_parts v b p in
     let f : x ≡ o.header ++ (o.left ++ y) = e ∙ behind o.header o.left y b o.cut in

@@ -37,7 +37,7 @@ kind_numbers kinds.SetWatches kinds.SetWatches e = refl
 kind_numbers kinds.Close kinds.Close e = refl
 kind_numbers k l e = absurd (omega (arith, ints, e))
 
-one_kind : (m n : ℤ) (k l : Option Kind) → m ≡ n → IsKind m k → IsKind n l → k ≡ l
+pub one_kind : (m n : ℤ) (k l : Option Kind) → m ≡ n → IsKind m k → IsKind n l → k ≡ l
 one_kind m n None None e p q = refl
 one_kind m n None (Some l) e p q = absurd (p l (e ∙ q))
 one_kind m n (Some k) None e p q = absurd (q k (sym e ∙ p))
