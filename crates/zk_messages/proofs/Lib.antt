@@ -1,5 +1,14 @@
 pub mod Events
 pub mod MultiLemmas
+pub mod OneEvent
+pub mod OneForm
+pub mod OneList
+pub mod OneMulti
+pub mod OnePlace
+pub mod OneReply
+pub mod OneRequest
+pub mod OneWriting
 pub mod Reaching
+pub mod RecordsBack
 pub mod Replies
 pub mod Requests

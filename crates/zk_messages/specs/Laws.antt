@@ -1,4 +1,5 @@
--- Laws of messages: a body is one message or none, and is spelled in one way, and a body that is a message is not refused.
+-- Laws of messages: a body is one message or none, and is spelled in one way, a body that is a message is not refused,
+-- and a refusal has one place and one reason.
 use Rattle.std.specs.Prelude.{◌≡◌, ℕ, ℤ, List}
 use Rattle.jute_core.specs.declared.cursor.Reason.{Reason}
 use Rattle.zk_messages.specs.Requests.{SpellsRequest, RefusedRequest}
@@ -20,6 +21,10 @@ HasOneSpelling xid r = (a b : List ℕ) → SpellsRequest xid r a → SpellsRequ
 abbrev pub IsRequestOrRefused : List ℕ → Type 0
 IsRequestOrRefused body = (xid : ℤ) (r : Request) (place : ℕ) (reason : Reason) → SpellsRequest xid r body → RefusedRequest body place reason → ⊥
 
+-- a refusal has one place and one reason
+abbrev pub HasOneRefusal : List ℕ → Type 0
+HasOneRefusal body = (p q : ℕ) (r s : Reason) → RefusedRequest body p r → RefusedRequest body q s → (p ≡ q) × (r ≡ s)
+
 -- the same of replies
 abbrev pub IsOneReply : Shape → List ℕ → Type 0
 IsOneReply shape body = (r s : Reply) → SpellsReply shape r body → SpellsReply shape s body → r ≡ s
@@ -30,6 +35,9 @@ HasOneReplySpelling shape r = (a b : List ℕ) → SpellsReply shape r a → Spe
 abbrev pub IsReplyOrRefused : Shape → List ℕ → Type 0
 IsReplyOrRefused shape body = (r : Reply) (place : ℕ) (reason : Reason) → SpellsReply shape r body → RefusedReply shape body place reason → ⊥
 
+abbrev pub HasOneReplyRefusal : Shape → List ℕ → Type 0
+HasOneReplyRefusal shape body = (p q : ℕ) (r s : Reason) → RefusedReply shape body p r → RefusedReply shape body q s → (p ≡ q) × (r ≡ s)
+
 -- and of events
 abbrev pub IsOneEvent : List ℕ → Type 0
 IsOneEvent body = (e f : Event) → SpellsEvent e body → SpellsEvent f body → e ≡ f
@@ -39,3 +47,6 @@ HasOneEventSpelling e = (a b : List ℕ) → SpellsEvent e a → SpellsEvent e b
 
 abbrev pub IsEventOrRefused : List ℕ → Type 0
 IsEventOrRefused body = (e : Event) (place : ℕ) (reason : Reason) → SpellsEvent e body → RefusedEvent body place reason → ⊥
+
+abbrev pub HasOneEventRefusal : List ℕ → Type 0
+HasOneEventRefusal body = (p q : ℕ) (r s : Reason) → RefusedEvent body p r → RefusedEvent body q s → (p ≡ q) × (r ≡ s)
