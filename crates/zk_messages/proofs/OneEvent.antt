@@ -36,7 +36,7 @@ not_wrong t v Behind at b x y place reason p e fine h = elim h [
   ]
 ]
 
--- what is wrong behind the xid of the header, and behind its zxid
+-- what is wrong behind the zxid of the header, and behind its xid
 abbrev BehindZxid : ℕ → List ℕ → ℕ → Reason → Type 0
 BehindZxid at b place reason = IsWrong int (pos 0) (RefusedForm (fields event_record)) at b place reason
 
