@@ -1,6 +1,6 @@
 -- A body is one event, spelled in one way, or it is refused.
-use Rattle.std.proofs.Common.{◌≡◌, ◌≢◌, ℕ, ℤ, pos, negsuc, ◌+◌, List, [], ◌++◌, length, refl, sym, ap, subst, ◌∙◌, inl, inr}
-use Rattle.jute_core.specs.Jute.{Jute, Value, Spells, Refused, int, long, pair}
+use Rattle.std.proofs.Common.{◌≡◌, ℕ, pos, negsuc, ◌+◌, List, [], ◌++◌, length, refl, sym, ap, subst, ◌∙◌, inl, inr}
+use Rattle.jute_core.specs.Jute.{Jute, Value, Spells, int, long, pair}
 use Rattle.jute_core.specs.declared.cursor.Reason.{Reason}
 use Rattle.jute_core.proofs.OneSpelling.{one_spelling}
 use Rattle.jute_core.proofs.ReadOrRefused.{read_or_refused}
@@ -36,7 +36,7 @@ not_wrong t v Behind at b x y place reason p e fine h = elim h [
   ]
 ]
 
--- what is wrong behind the xid of the header, and behind its zxid
+-- what is wrong behind the zxid of the header, and behind its xid
 abbrev BehindZxid : ℕ → List ℕ → ℕ → Reason → Type 0
 BehindZxid at b place reason = IsWrong int (pos 0) (RefusedForm (fields event_record)) at b place reason
 
@@ -51,6 +51,6 @@ event_or_refused body e place reason p h =
     let zxid = halves long int (negsuc 0) (pos 0) xid.second xid.behind in
     let behind_xid : body ≡ xid.first ++ (xid.second ++ whole.second) = whole.cut ∙ behind xid.first xid.second whole.second whole.first xid.cut in
     not_wrong int (negsuc 0) BehindXid 0 body xid.first (xid.second ++ whole.second) place reason xid.front behind_xid
-        (λ i. not_wrong long (negsuc 0) BehindZxid i (xid.second ++ whole.second) zxid.first (zxid.second ++ whole.second) place reason zxid.front (behind zxid.first zxid.second whole.second xid.second zxid.cut)
-        (λ j. not_wrong int (pos 0) (RefusedForm (fields event_record)) j (zxid.second ++ whole.second) zxid.second whole.second place reason zxid.behind refl
-        (λ k. form_read (fields event_record) (event_fields e) k whole.second place reason whole.behind))) h
+    (λ i. not_wrong long (negsuc 0) BehindZxid i (xid.second ++ whole.second) zxid.first (zxid.second ++ whole.second) place reason zxid.front (behind zxid.first zxid.second whole.second xid.second zxid.cut)
+    (λ j. not_wrong int (pos 0) (RefusedForm (fields event_record)) j (zxid.second ++ whole.second) zxid.second whole.second place reason zxid.behind refl
+    (λ k. form_read (fields event_record) (event_fields e) k whole.second place reason whole.behind))) h

@@ -1,5 +1,5 @@
 -- What follows a header is spelled in one way, and read or refused.
-use Rattle.std.proofs.Common.{◌≡◌, ◌⊎◌, ℕ, ◌<◌, List, [], ◌++◌, length, refl, sym, ap, ◌∙◌, inl, inr, arith}
+use Rattle.std.proofs.Common.{◌≡◌, ◌⊎◌, ℕ, List, [], ◌++◌, length, refl, sym, ap, ◌∙◌, inl, inr, arith}
 use Rattle.std.proofs.lemmas.List.{append-nil}
 use Rattle.jute_core.specs.declared.cursor.Reason.{Reason}
 use Rattle.jute_core.proofs.OneSpelling.{one_spelling}

@@ -1,14 +1,14 @@
 -- Operations and results of a multi: each is spelled in one way, and read or refused.
-use Rattle.std.proofs.Common.{◌≡◌, ◌≢◌, ℕ, ℤ, pos, negsuc, ◌+◌, Bool, true, false, List, [], ◌++◌, Option, Some, None, refl, sym, ap, subst, ◌∙◌, inl, inr, arith}
+use Rattle.std.proofs.Common.{◌≡◌, ℕ, ℤ, pos, negsuc, ◌+◌, Bool, true, false, List, [], ◌++◌, refl, sym, ap, subst, ◌∙◌, inl, inr, arith}
 use Rattle.std.proofs.lemmas.Int.{ints}
 use Rattle.std.proofs.lemmas.List.{append-nil}
-use Rattle.jute_core.specs.Jute.{Jute, Value, Spells, Refused, int, ustring, pair}
+use Rattle.jute_core.specs.Jute.{Value, Spells, Refused, int, ustring, pair}
 use Rattle.jute_core.specs.declared.cursor.Reason.{Reason}
 use Rattle.jute_core.proofs.OneSpelling.{one_spelling}
 use Rattle.jute_core.proofs.ReadOrRefused.{read_or_refused}
 use Rattle.zk_records.specs.Stats.{stat, stat_fields}
 use Rattle.zk_messages.specs.Kinds.{op_number, op_kind_of}
-use Rattle.zk_messages.specs.Multi.{multi_header, IsHeader, IsEnd, op_record, op_fields, SpellsOp, SpellsResult, SpellsOps, SpellsResults, IsNoOp, IsBadErr, IsBadMark, IsBadOp, IsBadRepeat, result_record, RefusedIfAny, IsBadResult, BehindHeader, RefusedOp, RefusedResult, RefusedOps, RefusedResults}
+use Rattle.zk_messages.specs.Multi.{multi_header, IsHeader, IsEnd, op_record, op_fields, SpellsOp, SpellsResult, SpellsOps, SpellsResults, IsBadMark, IsBadRepeat, result_record, RefusedIfAny, IsBadResult, RefusedOp, RefusedResult, RefusedOps, RefusedResults}
 use Rattle.zk_messages.specs.declared.kind.OpKind.{OpKind}
 use Rattle.zk_messages.specs.declared.kind.OpKind.TheVariants as kinds
 use Rattle.zk_messages.specs.declared.request.Op.{Op}
@@ -70,7 +70,7 @@ op_back (ops.Check r) = refl
 same_op : (k l : OpKind) (v : Value (op_record k)) (w : Value (op_record l)) (a b x y : List ℕ) → k ≡ l → Spells (op_record k) v a → Spells (op_record l) w b → a ++ x ≡ b ++ y → (op_of k v ≡ op_of l w) × (a ≡ b) × (x ≡ y)
 same_op k l v w a b x y e p q f =
     subst (λ (m : OpKind). (u : Value (op_record m)) → Spells (op_record m) u b → (op_of k v ≡ op_of m u) × (a ≡ b) × (x ≡ y)) e
-        (λ u h. let r = one_spelling (op_record k) v u a b x y p h f in (ap (op_of k) r.0, r.1, r.2)) w q
+    (λ u h. let r = one_spelling (op_record k) v u a b x y p h f in (ap (op_of k) r.0, r.1, r.2)) w q
 
 pub one_op : AreApart SpellsOp
 unfolding SpellsOp
@@ -78,8 +78,7 @@ one_op v w a b x y p q e =
     let h = halves multi_header (op_record (op_kind_of v)) (op_number (op_kind_of v), (false, negsuc 0)) (op_fields v) a p in
     let k = halves multi_header (op_record (op_kind_of w)) (op_number (op_kind_of w), (false, negsuc 0)) (op_fields w) b q in
     let r = headers _ _ _ _ _ _ h.first k.first (h.second ++ x) (k.second ++ y) h.front k.front (sym (behind h.first h.second x a h.cut) ∙ e ∙ behind k.first k.second y b k.cut) in
-    let s = same_op (op_kind_of v) (op_kind_of w) (op_fields v) (op_fields w) h.second k.second x y (op_numbers _ _ r.kind) h.behind k.behind r.more in
-    (
+    let s = same_op (op_kind_of v) (op_kind_of w) (op_fields v) (op_fields w) h.second k.second x y (op_numbers _ _ r.kind) h.behind k.behind r.more in (
       sym (op_back v) ∙ s.0 ∙ op_back w,
       h.cut ∙ ap (λ (l : List ℕ). l ++ h.second) r.bytes ∙ ap (λ (l : List ℕ). k.first ++ l) s.1 ∙ sym k.cut,
       s.2,
@@ -294,6 +293,7 @@ end_read_result at b x y place reason p e h = elim h [
   where
     not_both : true ≡ false → ⊥
     not_both g = cc
+
     end_fields : (kind : ℤ) (done : Bool) (err : ℤ) (left : List ℕ) (at place : ℕ) (reason : Reason) → kind ≡ negsuc 0 → done ≡ true → err ≡ negsuc 0 → IsBadResult kind done err left at place reason → ⊥
     end_fields kind done err left at place reason e d z h = elim h [
       | inl none ↦ none.2.0 z

@@ -7,7 +7,7 @@ use Rattle.jute_core.proofs.OneRefusal.{one_refusal}
 use Rattle.jute_core.proofs.OneSpelling.{one_spelling}
 use Rattle.jute_core.proofs.ReadOrRefused.{read_or_refused}
 use Rattle.zk_records.specs.Headers.{request_header, reply_header}
-use Rattle.zk_messages.specs.Forms.{Form, FormValue, fields, nothing, operations, results, unread, SpellsForm, RefusedFront, IsFollowed, RefusedForm, form_of_any, form_of_shape}
+use Rattle.zk_messages.specs.Forms.{Form, fields, nothing, operations, results, unread, RefusedFront, IsFollowed, RefusedForm, form_of_any, form_of_shape}
 use Rattle.zk_messages.specs.Kinds.{op_number}
 use Rattle.zk_messages.specs.Laws.{HasOneRefusal, HasOneReplyRefusal, HasOneEventRefusal}
 use Rattle.zk_messages.specs.Multi.{multi_header, op_record, SpellsOp, SpellsResult, IsNoOp, IsBadErr, IsBadMark, IsBadOp, IsBadRepeat, result_record, RefusedIfAny, IsBadResult, BehindHeader, RefusedOp, RefusedResult, RefusedOps, RefusedResults}
@@ -103,9 +103,9 @@ op_part_once : (Behind : OpKind → ℕ → Reason → Type 0) (wanted kind : �
 op_part_once Behind wanted kind done err at once = once_or (NoOp kind at) (λ p r. BadOpMark wanted kind done err at p r ⊎ BadBehind Behind wanted kind done err p r)
     (λ p q r s h k. (h.1 ∙ sym k.1, h.2 ∙ sym k.2))
     (once_or (BadOpMark wanted kind done err at) (BadBehind Behind wanted kind done err)
-        (λ p q r s h k. mark_once false wanted done err at p q r s h.2 k.2)
-        (λ p q r s h k. once h.0 p q r s h.4 (subst (λ (o : OpKind). Behind o q s) (op_numbers k.0 h.0 (sym k.1 ∙ h.1)) k.4))
-        (λ p q r s h k. good_mark false wanted done err at p r k.2 k.3 h.2))
+    (λ p q r s h k. mark_once false wanted done err at p q r s h.2 k.2)
+    (λ p q r s h k. once h.0 p q r s h.4 (subst (λ (o : OpKind). Behind o q s) (op_numbers k.0 h.0 (sym k.1 ∙ h.1)) k.4))
+    (λ p q r s h k. good_mark false wanted done err at p r k.2 k.3 h.2))
     (λ p q r s h k. elim k [ inl mark ↦ h.0.1 mark.0 mark.1 | inr more ↦ h.0.1 more.0 more.1 ])
 
 -- and where it is none, it is none of these
@@ -120,9 +120,9 @@ bad_op_once : (kind : ℤ) (done : Bool) (err : ℤ) (left : List ℕ) (at : ℕ
 bad_op_once kind done err left at =
     let Behind : OpKind → ℕ → Reason → Type 0 = λ k. Refused (op_record k) (at + 9) left in
     once_or (BadEnd kind done err at) (λ p r. NoOp kind at p r ⊎ BadOpMark (negsuc 0) kind done err at p r ⊎ BadBehind Behind (negsuc 0) kind done err p r)
-        (λ p q r s h k. mark_once true (negsuc 0) done err at p q r s h.1 k.1)
-        (op_part_once Behind (negsuc 0) kind done err at (λ k. one_refusal (op_record k) (at + 9) left))
-        (λ p q r s h k. none_apart Behind (negsuc 0) kind done err at q s h.0 k)
+    (λ p q r s h k. mark_once true (negsuc 0) done err at p q r s h.1 k.1)
+    (op_part_once Behind (negsuc 0) kind done err at (λ k. one_refusal (op_record k) (at + 9) left))
+    (λ p q r s h k. none_apart Behind (negsuc 0) kind done err at q s h.0 k)
 
 repeat_once : (err : ℤ) (at : ℕ) (b : List ℕ) → IsOnce (IsBadRepeat err at b)
 repeat_once err at b = once_or (Refused int at b) (λ p r. (z : ℤ) × (x y : List ℕ) × Spells int z x × (b ≡ x ++ y) × (z ≢ err) × (p ≡ at) × (r ≡ BadHeader))
@@ -138,12 +138,12 @@ bad_result_once : (kind : ℤ) (done : Bool) (err : ℤ) (left : List ℕ) (at :
 bad_result_once kind done err left at =
     let Behind : OpKind → ℕ → Reason → Type 0 = λ k. RefusedIfAny (result_record k) (at + 9) left in
     once_or (BadResultEnd kind done err at) (λ p r. BadCode kind done err left at p r ⊎ NoOp kind at p r ⊎ BadOpMark (pos 0) kind done err at p r ⊎ BadBehind Behind (pos 0) kind done err p r)
-        (λ p q r s h k. (h.2.1 ∙ sym k.2.1, h.2.2 ∙ sym k.2.2))
-        (once_or (BadCode kind done err left at) (λ p r. NoOp kind at p r ⊎ BadOpMark (pos 0) kind done err at p r ⊎ BadBehind Behind (pos 0) kind done err p r)
-            (λ p q r s h k. repeat_once err (at + 9) left p q r s h.2 k.2)
-            (op_part_once Behind (pos 0) kind done err at (λ k. if_any_once (result_record k) (at + 9) left))
-            (λ p q r s h k. none_apart Behind (pos 0) kind done err at q s h.0 k))
-        (λ p q r s h k. elim k [ inl code ↦ not_both (sym h.1 ∙ code.1) | inr more ↦ none_apart Behind (pos 0) kind done err at q s h.0 more ])
+    (λ p q r s h k. (h.2.1 ∙ sym k.2.1, h.2.2 ∙ sym k.2.2))
+    (once_or (BadCode kind done err left at) (λ p r. NoOp kind at p r ⊎ BadOpMark (pos 0) kind done err at p r ⊎ BadBehind Behind (pos 0) kind done err p r)
+    (λ p q r s h k. repeat_once err (at + 9) left p q r s h.2 k.2)
+    (op_part_once Behind (pos 0) kind done err at (λ k. if_any_once (result_record k) (at + 9) left))
+    (λ p q r s h k. none_apart Behind (pos 0) kind done err at q s h.0 k))
+    (λ p q r s h k. elim k [ inl code ↦ not_both (sym h.1 ∙ code.1) | inr more ↦ none_apart Behind (pos 0) kind done err at q s h.0 more ])
   where
     not_both : true ≡ false → ⊥
     not_both e = cc
@@ -225,12 +225,12 @@ wrong_once : (t : Jute) (v : Value t) (Behind : ℕ → List ℕ → ℕ → Rea
 wrong_once t v Behind once at b = once_or (Refused t at b) (λ p r. IsOther t v at b p r ⊎ IsBehind t v Behind at b p r)
     (one_refusal t at b)
     (once_or (IsOther t v at b) (IsBehind t v Behind at b)
-        (λ p q r s h k. (h.6 ∙ sym k.6, h.7 ∙ sym k.7))
-        (λ p q r s h k.
-            let u = one_spelling t v v h.0 k.0 h.1 k.1 h.2 k.2 (sym h.3 ∙ k.3) in
-            let placed = subst (λ (l : List ℕ). Behind (at + length l) k.1 q s) (sym u.1) k.4 in
-            once (at + length h.0) h.1 p q r s h.4 (subst (λ (l : List ℕ). Behind (at + length h.0) l q s) (sym u.2) placed))
-        (λ p q r s h k. h.5 (one_spelling t h.0 v h.1 k.0 h.2 k.1 h.3 k.2 (sym h.4 ∙ k.3)).0))
+    (λ p q r s h k. (h.6 ∙ sym k.6, h.7 ∙ sym k.7))
+    (λ p q r s h k.
+    let u = one_spelling t v v h.0 k.0 h.1 k.1 h.2 k.2 (sym h.3 ∙ k.3) in
+    let placed = subst (λ (l : List ℕ). Behind (at + length l) k.1 q s) (sym u.1) k.4 in
+    once (at + length h.0) h.1 p q r s h.4 (subst (λ (l : List ℕ). Behind (at + length h.0) l q s) (sym u.2) placed))
+    (λ p q r s h k. h.5 (one_spelling t h.0 v h.1 k.0 h.2 k.1 h.3 k.2 (sym h.4 ∙ k.3)).0))
     (λ p q r s first more. elim more [
       | inl other ↦ read_or_refused t other.0 at other.1 b other.2 p r other.3 other.4 first
       | inr later ↦ read_or_refused t v at later.0 b later.1 p r later.2 later.3 first
@@ -240,5 +240,5 @@ pub one_event_refusal : (body : List ℕ) → HasOneEventRefusal body
 unfolding IsWrongBefore
 one_event_refusal body =
     wrong_once int (negsuc 0) (IsWrong long (negsuc 0) (IsWrong int (pos 0) (RefusedForm (fields event_record))))
-        (wrong_once long (negsuc 0) (IsWrong int (pos 0) (RefusedForm (fields event_record)))
-        (wrong_once int (pos 0) (RefusedForm (fields event_record)) (form_once (fields event_record)))) 0 body
+    (wrong_once long (negsuc 0) (IsWrong int (pos 0) (RefusedForm (fields event_record)))
+    (wrong_once int (pos 0) (RefusedForm (fields event_record)) (form_once (fields event_record)))) 0 body

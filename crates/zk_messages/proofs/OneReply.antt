@@ -1,15 +1,14 @@
 -- In each shape a body is one reply, spelled in one way, or it is refused.
-use Rattle.std.proofs.Common.{◌≡◌, ◌≢◌, ◌⊎◌, ℕ, ℤ, pos, ◌<◌, List, [], ◌++◌, length, refl, sym, ap, subst, ◌∙◌, inl, inr, arith}
-use Rattle.jute_core.specs.Jute.{Spells}
+use Rattle.std.proofs.Common.{◌≡◌, ◌≢◌, ◌⊎◌, ℕ, ℤ, pos, List, [], ◌++◌, length, refl, sym, ap, subst, ◌∙◌, inl, inr, arith}
 use Rattle.jute_core.specs.declared.cursor.Reason.{Reason}
 use Rattle.jute_core.proofs.OneSpelling.{one_spelling}
 use Rattle.jute_core.proofs.ReadOrRefused.{read_or_refused}
 use Rattle.zk_records.specs.Acls.{acls_fields}
 use Rattle.zk_records.specs.Headers.{reply_header}
 use Rattle.zk_records.specs.Stats.{stat_fields}
-use Rattle.zk_messages.specs.Forms.{FormValue, SpellsForm, RefusedForm, form_of_shape}
+use Rattle.zk_messages.specs.Forms.{FormValue, SpellsForm, form_of_shape}
 use Rattle.zk_messages.specs.Laws.{IsOneReply, HasOneReplySpelling, IsReplyOrRefused}
-use Rattle.zk_messages.specs.Replies.{SpellsOutcome, err_of, SpellsReply, IsBadOutcome, RefusedReply}
+use Rattle.zk_messages.specs.Replies.{SpellsOutcome, err_of, IsBadOutcome}
 use Rattle.zk_messages.specs.declared.reply.Outcome.{Outcome}
 use Rattle.zk_messages.specs.declared.reply.Outcome.TheVariants as outcomes
 use Rattle.zk_messages.specs.declared.reply.Reply.{Reply}

@@ -1,7 +1,6 @@
 -- A body is one request with one xid, spelled in one way, or it is refused.
-use Rattle.std.proofs.Common.{◌≡◌, ◌≢◌, ℕ, ℤ, pos, negsuc, List, [], ◌++◌, Option, Some, None, refl, sym, ap, subst, ◌∙◌, inl, inr, arith}
+use Rattle.std.proofs.Common.{◌≡◌, ℕ, ℤ, List, ◌++◌, Option, Some, None, refl, sym, ap, subst, ◌∙◌, inl, inr, arith}
 use Rattle.std.proofs.lemmas.Int.{ints}
-use Rattle.jute_core.specs.Jute.{Spells}
 use Rattle.jute_core.specs.declared.cursor.Reason.{Reason}
 use Rattle.jute_core.proofs.OneSpelling.{one_spelling}
 use Rattle.jute_core.proofs.ReadOrRefused.{read_or_refused}
@@ -9,7 +8,7 @@ use Rattle.zk_records.specs.Headers.{request_header}
 use Rattle.zk_messages.specs.Forms.{FormValue, SpellsForm, RefusedForm, form_of_any}
 use Rattle.zk_messages.specs.Kinds.{kind_number, kind_of}
 use Rattle.zk_messages.specs.Laws.{IsOneRequest, HasOneSpelling, IsRequestOrRefused}
-use Rattle.zk_messages.specs.Requests.{IsUnknown, IsKind, number_of, fields_of, MayHave, SpellsRequest, IsBadBody, RefusedRequest}
+use Rattle.zk_messages.specs.Requests.{IsKind, number_of, fields_of, MayHave, IsBadBody}
 use Rattle.zk_messages.specs.declared.kind.Kind.{Kind}
 use Rattle.zk_messages.specs.declared.kind.Kind.TheVariants as kinds
 use Rattle.zk_messages.specs.declared.request.Request.{Request}
@@ -72,7 +71,7 @@ request_back r = refl
 same_request : (k l : Option Kind) (m n : ℤ) (v : FormValue (form_of_any k)) (w : FormValue (form_of_any l)) (b : List ℕ) → k ≡ l → m ≡ n → SpellsForm (form_of_any k) v b → SpellsForm (form_of_any l) w b → request_of k m v ≡ request_of l n w
 same_request k l m n v w b e f p q =
     subst (λ (o : Option Kind). (u : FormValue (form_of_any o)) → SpellsForm (form_of_any o) u b → request_of k m v ≡ request_of o n u) e
-        (λ u h. ap (λ (z : ℤ). request_of k z v) f ∙ ap (request_of k n) (form_one (form_of_any k) v u b p h)) w q
+    (λ u h. ap (λ (z : ℤ). request_of k z v) f ∙ ap (request_of k n) (form_one (form_of_any k) v u b p h)) w q
 
 pub one_request : (body : List ℕ) → IsOneRequest body
 one_request body x y r s p q =

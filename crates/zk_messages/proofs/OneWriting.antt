@@ -1,5 +1,5 @@
 -- A value has one spelling.
-use Rattle.std.proofs.Common.{◌≡◌, ℕ, true, false, List, [], ◌∷◌, ◌++◌, length, Some, None, refl, sym, ap, ◌∙◌}
+use Rattle.std.proofs.Common.{◌≡◌, ℕ, true, false, List, [], ◌∷◌, ◌++◌, Some, None, sym, ap, ◌∙◌}
 use Rattle.jute_core.specs.Jute.{Jute, Value, int, long, boolean, buffer, ustring, count, pair, vector, IsSized, Each, Spells}
 
 -- the two values of a pair, and the bytes of each
