@@ -72,11 +72,15 @@ fail_op kind a b (Refused r) head h =
     }
 fail_op kind a b Memory head h = record { refused = tt }
 
-pub reach_error : (code : ℤ) (r : OpResult) (a b c : Position) → Passes a b multi_header (negsuc 0, (false, code)) → r ≡ op_results.Error code → Passes b c int code → Reaches a c (SpellsResult r)
-unfolding SpellsResult
-reach_error code r a b c head is p =
+-- behind the type -1; the code of the error was passed by value
+pub reach_error : {k : ℤ} {d : Bool} {e : ℤ} (r : OpResult) (a b c : Position) → Passes a b multi_header (k, (d, e)) → of_z w32 k ≡ of_z w32 (negsuc 0) → d ≡ false → r ≡ op_results.Error (to_z w32 (of_z w32 e)) → Passes b c int (to_z w32 (of_z w32 e)) → Reaches a c (SpellsResult r)
+unfolding Spells SpellsResult
+reach_error {k} {d} {e} r a b c p kind done is q =
+    let code = to_z w32 (of_z w32 e) in
+    let none : k ≡ negsuc 0 = sym (to_z-of_z w32 k p.spelled.2.0) ∙ ap (λ (n : ℕ). to_z w32 n) kind in
+    let head : Passes a b multi_header (negsuc 0, (false, code)) = header_is p none done (sym (to_z-of_z w32 e p.spelled.3.3.0)) in
     subst (λ (x : OpResult). Reaches a c (SpellsResult x)) (sym is)
-        (reach_passed (pair multi_header int) _ a c (pass_then multi_header int _ _ a b c head p))
+        (reach_passed (pair multi_header int) _ a c (pass_then multi_header int _ _ a b c head q))
 
 -- an operation that was done, and nothing behind its header
 reach_bare : (kind : ℤ) (a b c : Position) → Passes a b multi_header (kind, (false, pos 0)) → c ≡ b → Reaches a c (IsHeader kind false (pos 0))
