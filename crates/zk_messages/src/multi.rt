@@ -53,7 +53,7 @@ impl MultiHeader {
         let kind = ahead.int()?;
         let done = ahead.boolean()?;
         let err = ahead.int()?;
-        // Its range is the clause `fits`.
+        // A place is a u32: the clause `fits`.
         let _behind = ahead.place();
         *cursor = ahead;
         Ok(MultiHeader { kind, done, err })
