@@ -1,7 +1,7 @@
 -- Headers of multis, and what stands behind them.
-use Rattle.std.proofs.Common.{◌≡◌, ℕ, ℤ, pos, negsuc, List, ◌++◌, ◌+◌, ◌<◌, Bool, true, false, length, refl, inl, inr, ◌∙◌, ap, sym, subst, arith, length-append, w32, to_z, of_z}
+use Rattle.std.proofs.Common.{◌≡◌, ℕ, ℤ, pos, negsuc, List, ◌+◌, Bool, true, false, length, refl, inr, ◌∙◌, ap, sym, subst, arith, length-append, w32, to_z, of_z}
 use Rattle.std.proofs.lemmas.Int.{to_z-of_z}
-use Rattle.jute_core.specs.Jute.{Jute, Value, Spells, Refused as IsRefused, boolean, int, ustring, pair}
+use Rattle.jute_core.specs.Jute.{Spells, Refused as IsRefused, boolean, int, ustring, pair}
 use Rattle.jute_core.specs.Position.{Position, Passes, Adds}
 use Rattle.jute_core.specs.Records.{Fails}
 use Rattle.jute_core.specs.declared.cursor.Reason.{Reason}
@@ -43,8 +43,8 @@ header_moves p q r =
 header_is : {k n : ℤ} {d f : Bool} {e m : ℤ} {a b : Position} → Passes a b multi_header (k, (d, e)) → k ≡ n → d ≡ f → e ≡ m → Passes a b multi_header (n, (f, m))
 header_is {k} {n} {d} {f} {e} {m} {a} {b} p kind done err =
     subst (λ (x : ℤ). Passes a b multi_header (x, (f, m))) kind
-        (subst (λ (x : Bool). Passes a b multi_header (k, (x, m))) done
-        (subst (λ (x : ℤ). Passes a b multi_header (k, (d, x))) err p))
+    (subst (λ (x : Bool). Passes a b multi_header (k, (x, m))) done
+    (subst (λ (x : ℤ). Passes a b multi_header (k, (d, x))) err p))
 
 -- the same for a type that was passed by value
 pub header_of : {k n : ℤ} {d f : Bool} {e m : ℤ} {a b : Position} → Passes a b multi_header (k, (d, e)) → to_z w32 (of_z w32 k) ≡ n → d ≡ f → e ≡ m → Passes a b multi_header (n, (f, m))
@@ -55,15 +55,15 @@ header_of {k} p kind done err = header_is p (sym (to_z-of_z w32 k p.spelled.2.0)
 fail_behind_header : (IsBad : ℤ → Bool → ℤ → List ℕ → ℕ → ℕ → Reason → Type 0) (Later : ℕ → List ℕ → ℕ → Reason → Type 0) (k : ℤ) (d : Bool) (e : ℤ) (a b : Position) (cause : NotRead) → ((y : List ℕ) (place : ℕ) (reason : Reason) → Later (a.place + 9) y place reason → IsBad k d e y a.place place reason) → Passes a b multi_header (k, (d, e)) → FailsAt b Later cause → FailsAt a (BehindHeader IsBad) cause
 fail_behind_header IsBad Later k d e a b cause so p h = fail_behind (IsHeader k d e) Later (BehindHeader IsBad) a b cause
     (λ x y place reason head f. record {
-    kind = k;
-    done = d;
-    err = e;
-    header = x;
-    left = y;
-    head = head;
-    cut = refl;
-    bad = so y place reason (subst (λ (n : ℕ). Later (a.place + n) y place reason) (header_length k d e x head) f);
-  }) (reach_passed multi_header (k, (d, e)) a b p) h
+      kind = k;
+      done = d;
+      err = e;
+      header = x;
+      left = y;
+      head = head;
+      cut = refl;
+      bad = so y place reason (subst (λ (n : ℕ). Later (a.place + n) y place reason) (header_length k d e x head) f);
+    }) (reach_passed multi_header (k, (d, e)) a b p) h
 
 pub reach_op : (kind : OpKind) (op : Op) (a b c : Position) → Passes a b multi_header (op_number kind, (false, negsuc 0)) → op_kind_of op ≡ kind → Passes b c (op_record (op_kind_of op)) (op_fields op) → Reaches a c (SpellsOp op)
 unfolding SpellsOp
@@ -84,7 +84,7 @@ reach_error {k} {d} {e} r a b c p kind done is q =
     let none : k ≡ negsuc 0 = sym (to_z-of_z w32 k p.spelled.2.0) ∙ ap (λ (n : ℕ). to_z w32 n) kind in
     let head : Passes a b multi_header (negsuc 0, (false, code)) = header_is p none done (sym (to_z-of_z w32 e p.spelled.3.3.0)) in
     subst (λ (x : OpResult). Reaches a c (SpellsResult x)) (sym is)
-        (reach_passed (pair multi_header int) _ a c (pass_then multi_header int _ _ a b c head q))
+    (reach_passed (pair multi_header int) _ a c (pass_then multi_header int _ _ a b c head q))
 
 -- an operation that was done, and nothing behind its header
 reach_bare : (kind : ℤ) (a b c : Position) → Passes a b multi_header (kind, (false, pos 0)) → c ≡ b → Reaches a c (IsHeader kind false (pos 0))
@@ -95,12 +95,12 @@ pub reach_done : (kind : OpKind) (r : OpResult) (a b c : Position) → Passes a 
 unfolding SpellsResult
 reach_done kinds.Create r a b c head p =
     subst (λ (x : OpResult). Reaches a c (SpellsResult x)) (sym p.1)
-        (reach_passed (pair multi_header ustring) _ a c (pass_then multi_header ustring _ p.0 a b c head p.2))
+    (reach_passed (pair multi_header ustring) _ a c (pass_then multi_header ustring _ p.0 a b c head p.2))
 reach_done kinds.Delete r a b c head p =
     subst (λ (x : OpResult). Reaches a c (SpellsResult x)) (sym p.0) (reach_bare (pos 2) a b c head p.1)
 reach_done kinds.SetContent r a b c head p =
     subst (λ (x : OpResult). Reaches a c (SpellsResult x)) (sym p.1)
-        (reach_passed (pair multi_header stat) _ a c (pass_then multi_header stat _ (stat_fields p.0) a b c head p.2))
+    (reach_passed (pair multi_header stat) _ a c (pass_then multi_header stat _ (stat_fields p.0) a b c head p.2))
 reach_done kinds.Check r a b c head p =
     subst (λ (x : OpResult). Reaches a c (SpellsResult x)) (sym p.0) (reach_bare (pos 13) a b c head p.1)
 

@@ -6,7 +6,6 @@ use Rattle.jute_core.specs.Jute.{Jute, Value, Spells, Refused as IsRefused, Each
 use Rattle.jute_core.specs.Position.{Position, Passes, Adds, Grows}
 use Rattle.jute_core.specs.Records.{Fails}
 use Rattle.jute_core.specs.declared.cursor.Reason.{Reason}
-use Rattle.jute_core.specs.declared.cursor.Refusal.{Refusal}
 use Rattle.jute_core.specs.declared.not_read.NotRead.{NotRead}
 use Rattle.jute_core.specs.declared.not_read.NotRead.TheVariants.{Refused, Memory}
 use Rattle.zk_messages.specs.Reading.{Reaches, FailsAt, Ended, RefusedAmong}
@@ -72,7 +71,7 @@ pub add_next_of : {V : Type 0} (R : V → List ℕ → Type 0) (l : List V) (i :
 add_next_of {V} R l i v a b c p less at q =
     let next : take (i + 1) l ≡ take i l ++ v ∷ [] = ap (λ (k : ℕ). take k l) (plus_one i) ∙ take-suc l i v less ∙ ap (λ (w : V). take i l ++ w ∷ []) (sym at) in
     subst (λ (vs : List V). AddsBytes a c (Each R vs)) (sym next)
-        (add_both (Each R (take i l)) (R v) (Each R (take i l ++ v ∷ [])) a b c (λ x y e r. each_then R (take i l) v x y e r) p q)
+    (add_both (Each R (take i l)) (R v) (Each R (take i l ++ v ∷ [])) a b c (λ x y e r. each_then R (take i l) v x y e r) p q)
   where
     plus_one : (k : ℕ) → k + 1 ≡ suc k
     plus_one k = omega arith

@@ -2,7 +2,6 @@ use Rattle.std.proofs.Common.{rules}
 use Rattle.zk_messages.proofs.MultiLemmas.{header_of, reach_error, reach_done, fail_done}
 use Rattle.zk_messages.proofs.multi.next_result.Goals as goal
 
-
 pub returns-then-header-clause-some : goal.returns-then-header-clause-some
 returns-then-header-clause-some c =
     let repeated = c.in_ok-read_repeat.ensures.ok in
