@@ -6,7 +6,6 @@ use Rattle.jute_core.specs.Jute.{Jute, Value, Spells, Refused as IsRefused, Each
 use Rattle.jute_core.specs.Position.{Position, Passes, Adds, Grows}
 use Rattle.jute_core.specs.Records.{Fails}
 use Rattle.jute_core.specs.declared.cursor.Reason.{Reason}
-use Rattle.jute_core.specs.declared.cursor.Refusal.{Refusal}
 use Rattle.jute_core.specs.declared.not_read.NotRead.{NotRead}
 use Rattle.jute_core.specs.declared.not_read.NotRead.TheVariants.{Refused, Memory}
 use Rattle.zk_messages.specs.Reading.{Reaches, FailsAt, Ended, RefusedAmong}
@@ -30,9 +29,6 @@ reach_both First Second Both a b c both p q = record {
   moved = omega (arith, p.moved, q.moved, length-append p.bytes q.bytes);
 }
 
-pub reach_none : {V : Type 0} (R : V → List ℕ → Type 0) (a : Position) → Reaches a a (Each R [])
-reach_none R a = record { bytes = []; is = refl; cut = refl; moved = omega arith }
-
 pub reach_more : {V : Type 0} (R : V → List ℕ → Type 0) (vs : List V) (v : V) (a b c : Position) → Reaches a b (Each R vs) → Reaches b c (R v) → Reaches a c (Each R (vs ++ v ∷ []))
 reach_more R vs v a b c p q = reach_both (Each R vs) (R v) (Each R (vs ++ v ∷ [])) a b c (λ x y e r. each_then R vs v x y e r) p q
 
@@ -40,12 +36,6 @@ pub reach_end : {V : Type 0} (R : V → List ℕ → Type 0) (IsEnd : List ℕ �
 reach_end R IsEnd vs a b c p q = reach_both (Each R vs) IsEnd (Ended R IsEnd vs) a b c (λ x y e r. record { items = x; last = y; each = e; ended = r; cut = refl }) p q
 
 -- not reading; after want of memory there is nothing to show
-pub fail_refused : (Is : ℕ → List ℕ → ℕ → Reason → Type 0) (a : Position) (r : Refusal) → Is a.place a.left r.place r.reason → FailsAt a Is (Refused r)
-fail_refused Is a r h = record { refused = h }
-
-pub fail_memory : (Is : ℕ → List ℕ → ℕ → Reason → Type 0) (a : Position) → FailsAt a Is Memory
-fail_memory Is a = record { refused = tt }
-
 pub fail_as : (Is Too : ℕ → List ℕ → ℕ → Reason → Type 0) (a : Position) (e : NotRead) → ((place : ℕ) (reason : Reason) → Is a.place a.left place reason → Too a.place a.left place reason) → FailsAt a Is e → FailsAt a Too e
 fail_as Is Too a (Refused r) so h = record { refused = so r.place r.reason h.refused }
 fail_as Is Too a Memory so h = record { refused = tt }
@@ -76,15 +66,12 @@ add_both First Second Both a b c both p q = record {
   added = q.added ∙ ap (λ (l : List ℕ). l ++ q.bytes) p.added ∙ append_assoc a p.bytes q.bytes;
 }
 
-pub add_first_of : {V : Type 0} (R : V → List ℕ → Type 0) (a : List ℕ) → AddsBytes a a (Each R [])
-add_first_of R a = record { bytes = []; is = refl; added = sym (append-nil a) }
-
 -- of the values of a list the first i are written
 pub add_next_of : {V : Type 0} (R : V → List ℕ → Type 0) (l : List V) (i : ℕ) (v : V) (a b c : List ℕ) → AddsBytes a b (Each R (take i l)) → i < length l → v ≡ get_or l i v → AddsBytes b c (R v) → AddsBytes a c (Each R (take (i + 1) l))
 add_next_of {V} R l i v a b c p less at q =
     let next : take (i + 1) l ≡ take i l ++ v ∷ [] = ap (λ (k : ℕ). take k l) (plus_one i) ∙ take-suc l i v less ∙ ap (λ (w : V). take i l ++ w ∷ []) (sym at) in
     subst (λ (vs : List V). AddsBytes a c (Each R vs)) (sym next)
-        (add_both (Each R (take i l)) (R v) (Each R (take i l ++ v ∷ [])) a b c (λ x y e r. each_then R (take i l) v x y e r) p q)
+    (add_both (Each R (take i l)) (R v) (Each R (take i l ++ v ∷ [])) a b c (λ x y e r. each_then R (take i l) v x y e r) p q)
   where
     plus_one : (k : ℕ) → k + 1 ≡ suc k
     plus_one k = omega arith

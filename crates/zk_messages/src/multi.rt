@@ -53,7 +53,7 @@ impl MultiHeader {
         let kind = ahead.int()?;
         let done = ahead.boolean()?;
         let err = ahead.int()?;
-        // Its range is the clause `fits`.
+        // A place is a u32: the clause `fits`.
         let _behind = ahead.place();
         *cursor = ahead;
         Ok(MultiHeader { kind, done, err })
@@ -223,11 +223,11 @@ fn next_result(alloc: Global, cursor: &mut Cursor<'_>) -> Result<Option<OpResult
 {
     let place = cursor.place();
     let header = MultiHeader::read(cursor)?;
-    if header.kind == NONE && header.done {
-        header.judge(place, true, NONE)?;
-        return Ok(None);
-    }
     if header.kind == NONE {
+        if header.done {
+            header.judge(place, true, NONE)?;
+            return Ok(None);
+        }
         return Ok(Some(read_repeat(header.err, cursor)?));
     }
     let Some(kind) = OpKind::of(header.kind) else {

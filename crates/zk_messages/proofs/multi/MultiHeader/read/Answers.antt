@@ -11,10 +11,9 @@ returns-clause-reads c =
 pub returns-clause-moved : goal.returns-clause-moved
 returns-clause-moved c =
     let first = rw c.copy-ahead.ensures at c.in_ok-kind.ensures in
-    header_moves _ _ _ _ _ (int_then first (field_then c.in_ok-done.ensures (int_last c.in_ok-err.ensures)))
+    header_moves first c.in_ok-done.ensures c.in_ok-err.ensures
 
 pub returns-clause-fits : goal.returns-clause-fits
 returns-clause-fits c =
     let first = rw c.copy-ahead.ensures at c.in_ok-kind.ensures in
-    let moved = header_moves _ _ _ _ _ (int_then first (field_then c.in_ok-done.ensures (int_last c.in_ok-err.ensures))) in
-    omega (arith, moved, c.place-behind.ensures, c.place-behind.type_inv)
+    omega (arith, header_moves first c.in_ok-done.ensures c.in_ok-err.ensures, c.place-behind.ensures, c.place-behind.type_inv)
