@@ -11,7 +11,8 @@ use Rattle.jute_core.specs.declared.not_read.NotRead.{NotRead}
 use Rattle.jute_core.specs.declared.not_read.NotRead.TheVariants.{Refused, Memory}
 use Rattle.jute_core.proofs.Glue.{add_then}
 use Rattle.zk_records.specs.Acls.{acls, acls_fields}
-use Rattle.zk_records.specs.Headers.{reply_header}
+use Rattle.zk_records.specs.Headers.{reply_header, reply_header_fields}
+use Rattle.zk_records.specs.declared.header.ReplyHeader.{ReplyHeader}
 use Rattle.zk_records.specs.Stats.{stat, stat_fields}
 use Rattle.zk_records.specs.declared.acl.Acl.{Acl}
 use Rattle.zk_records.specs.declared.stat.Stat.{Stat}
@@ -270,13 +271,13 @@ results_added list a b p = record { bytes = p.bytes; is = results_is list p.byte
 
 pub ruleset outcomes_added = (error_added, empty_added, path_added, stat_added, content_added, acls_added, children_added, children2_added, results_added)
 
-pub reply_added : (r : Reply) (err : ℤ) (a b c : List ℕ) → Adds a b reply_header (r.xid, (r.zxid, err)) → err ≡ err_of r.outcome → AddsBytes b c (IsOutcome r.outcome) → AddsBytes a c (IsReply r)
-reply_added r err a b c p same q = record {
+pub reply_added : (r : Reply) (h : ReplyHeader) (a b c : List ℕ) → h ≡ record { xid = r.xid; zxid = r.zxid; err = err_of r.outcome } → Adds a b reply_header (reply_header_fields h) → AddsBytes b c (IsOutcome r.outcome) → AddsBytes a c (IsReply r)
+reply_added r h a b c same p q = record {
   bytes = p.bytes ++ q.bytes;
   is = λ shape has. record {
     header = p.bytes;
     rest = q.bytes;
-    head = subst (λ (z : ℤ). Spells reply_header (r.xid, (r.zxid, z)) p.bytes) same p.spelled;
+    head = subst (λ (k : ReplyHeader). Spells reply_header (reply_header_fields k) p.bytes) same p.spelled;
     tail = q.is shape has;
     cut = refl;
   };

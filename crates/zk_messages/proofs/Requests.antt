@@ -1,10 +1,10 @@
 -- Reading and writing requests, exit by exit.
-use Rattle.std.proofs.Common.{◌≡◌, ◌≢◌, ◌⊎◌, ℕ, ℤ, pos, ◌+◌, ◌<◌, List, [], ◌++◌, length, Option, Some, None, refl, inl, inr, ◌∙◌, ap, sym, subst, append_assoc, arith, length-append}
+use Rattle.std.proofs.Common.{◌≡◌, ◌≢◌, ◌⊎◌, ℕ, ℤ, pos, ◌+◌, ◌<◌, List, [], ◌++◌, length, Option, Some, None, Result, Ok, Err, OnOk, refl, inl, inr, ◌∙◌, ap, sym, subst, append_assoc, arith, length-append}
 use Rattle.std.proofs.lemmas.List.{append-nil}
 use Rattle.std.proofs.lemmas.Option.{none-some}
 use Rattle.std.specs.Option.{option_map_or}
 use Rattle.jute_core.specs.Jute.{Jute, Value, Spells, Refused as IsRefused}
-use Rattle.jute_core.specs.Position.{Position, Passes, Adds, Grows}
+use Rattle.jute_core.specs.Position.{Position, Passes, Adds, Appends}
 use Rattle.jute_core.specs.Records.{Fails}
 use Rattle.jute_core.specs.declared.cursor.Reason.{Reason}
 use Rattle.jute_core.specs.declared.cursor.Reason.TheVariants.{Trailing, BadXid}
@@ -192,7 +192,27 @@ pub unread_added : (body a b : List ℕ) → b ≡ a ++ body → AddsBytes a b (
 unfolding SpellsForm
 unread_added body a b p = record { bytes = body; is = refl; added = p }
 
-pub ruleset fields_are_added = (fields_added, nothing_added, operations_added, unread_added)
+-- the same of what a call answers
+abbrev pub IsTail : Request → List ℕ → Type 0
+IsTail r b = SpellsForm (form_of_any (kind_of r)) (fields_of r) b
+
+pub put_is : {E : Type 0} (r s : Request) (result : Result Unit E) (a b : List ℕ) → r ≡ s → OnOk result (AddsBytes a b (IsTail s)) → OnOk result (AddsBytes a b (IsTail r))
+put_is {E} r s result a b same h = subst (λ (x : Request). OnOk result (AddsBytes a b (IsTail x))) (sym same) h
+
+pub nothing_is : (r s : Request) (a : List ℕ) → r ≡ s → AddsBytes a a (IsTail s) → AddsBytes a a (IsTail r)
+nothing_is r s a same h = subst (λ (x : Request). AddsBytes a a (IsTail x)) (sym same) h
+
+pub fields_put : {E : Type 0} (t : Jute) (v : Value t) (result : Result Unit E) (a b : List ℕ) → Appends a b t v result → OnOk result (AddsBytes a b (SpellsForm (fields t) v))
+fields_put {E} t v (Ok u) a b p = fields_added t v a b p
+fields_put {E} t v (Err e) a b p = tt
+
+pub operations_put : {E : Type 0} (list : List Op) (result : Result Unit E) (a b : List ℕ) → OnOk result (AddsBytes a b (SpellsOps list)) → OnOk result (AddsBytes a b (SpellsForm operations list))
+operations_put {E} list (Ok u) a b p = operations_added list a b p
+operations_put {E} list (Err e) a b p = tt
+
+pub unread_put : {E : Type 0} (body : List ℕ) (result : Result Unit E) (a b : List ℕ) → OnOk result (b ≡ a ++ body) → OnOk result (AddsBytes a b (SpellsForm unread body))
+unread_put {E} body (Ok u) a b p = unread_added body a b p
+unread_put {E} body (Err e) a b p = tt
 
 pub request_added : (xid number : ℤ) (request : Request) (a b c : List ℕ) → IsKind (number_of request) (kind_of request) → MayHave xid (number_of request) → Adds a b request_header (xid, number) → number ≡ number_of request → AddsBytes b c (SpellsForm (form_of_any (kind_of request)) (fields_of request)) → AddsBytes a c (SpellsRequest xid request)
 request_added xid number request a b c numbered may p same q = record {

@@ -10,7 +10,7 @@ ghost use Rattle.zk_messages.specs.Reading.{Reaches, FailsAt, FailsBody};
 ghost use Rattle.zk_messages.specs.Replies.{SpellsOutcome, SpellsReply, RefusedReply, IsOutcome, IsReply, err_of};
 ghost use Rattle.zk_messages.specs.Replies.{event_record, event_fields, SpellsEvent, RefusedEvent, IsWrong, IsRight, IsWrongHeader, BeginsWithInt};
 ghost use Rattle.zk_messages.specs.Sending.{AddsBytes, IsShortOutcome};
-ghost use Rattle.zk_messages.specs.declared.reply.Shape.{Shape};
+ghost use Rattle.zk_messages.specs.declared.reply.Outcome.TheVariants as outcomes;
 
 use crate::multi::{put_results, read_results};
 use crate::reply::{Event, Outcome, Reply, Shape};
@@ -86,6 +86,17 @@ fn read_outcome(alloc: Global, shape: Shape, cursor: &mut Cursor<'_>) -> Result<
     }
 }
 
+// The reply that is an error, of which the header tells all.
+fn error_of(header: ReplyHeader) -> Reply
+    ensures { result ≡ record { xid = header.xid; zxid = header.zxid; outcome = outcomes.Error header.err } }
+{
+    Reply {
+        xid: header.xid,
+        zxid: header.zxid,
+        outcome: Outcome::Error { code: header.err },
+    }
+}
+
 /// Reads a whole body: the reply to a request whose replies without error have this shape. After an
 /// error code nothing follows the header. Linear in the body, which has at most 4,294,967,295 bytes.
 ///
@@ -102,15 +113,17 @@ pub fn read_reply(alloc: Global, shape: Shape, body: &[u8]) -> Result<Reply, Not
 {
     let mut cursor = Cursor::new(body);
     let header = ReplyHeader::read(&mut cursor)?;
-    let (xid, zxid) = (header.xid, header.zxid);
     if header.err != 0 {
         cursor.end()?;
-        let outcome = Outcome::Error { code: header.err };
-        return Ok(Reply { xid, zxid, outcome });
+        return Ok(error_of(header));
     }
     let outcome = read_outcome(alloc, shape, &mut cursor)?;
     cursor.end()?;
-    Ok(Reply { xid, zxid, outcome })
+    Ok(Reply {
+        xid: header.xid,
+        zxid: header.zxid,
+        outcome,
+    })
 }
 
 // Without memory a part of it may be there.
@@ -152,6 +165,16 @@ fn err_of(outcome: &Outcome) -> i32
     }
 }
 
+fn header_of(reply: &Reply) -> ReplyHeader
+    ensures { result ≡ record { xid = reply.now.xid; zxid = reply.now.zxid; err = err_of reply.now.outcome } }
+{
+    ReplyHeader {
+        xid: reply.xid,
+        zxid: reply.zxid,
+        err: err_of(&reply.outcome),
+    }
+}
+
 // Without memory a part of it may be there.
 #[tactic(auto, using(jute_core::proofs::Glue::glue, crate::proofs::Replies::reply_added))]
 fn put_reply(reply: &Reply, into: &mut Vec<u8>) -> Result<(), Memory>
@@ -159,13 +182,9 @@ fn put_reply(reply: &Reply, into: &mut Vec<u8>) -> Result<(), Memory>
     ensures ok { OnOk result (AddsBytes into.old.items into.new.items (IsReply reply.now)) }
     ensures err { OnErr result (Grows into.old.items into.new.items) }
 {
-    let header = ReplyHeader {
-        xid: reply.xid,
-        zxid: reply.zxid,
-        err: err_of(&reply.outcome),
-    };
-    header.write(into)?;
-    put_outcome(&reply.outcome, into)
+    header_of(reply).write(into)?;
+    put_outcome(&reply.outcome, into)?;
+    Ok(())
 }
 
 /// Appends the one spelling of a reply, in the shape that its outcome has. Linear in it. The code of

@@ -8,6 +8,7 @@ ghost use Rattle.zk_messages.specs.Reading.{Reaches, FailsAt, FailsBody};
 ghost use Rattle.zk_messages.specs.Requests.{IsKind, MayHave, SpellsRequest, RefusedRequest, number_of, fields_of};
 ghost use Rattle.zk_messages.specs.Sending.{AddsBytes, IsShortRequest};
 ghost use Rattle.zk_messages.specs.declared.kind.Kind.{Kind};
+ghost use Rattle.zk_messages.specs.declared.request.Request.TheVariants as requests;
 
 use crate::kind::Kind;
 use crate::multi::{put_ops, read_ops};
@@ -74,6 +75,14 @@ fn read_body(alloc: Global, kind: Kind, cursor: &mut Cursor<'_>) -> Result<Reque
     Ok(request)
 }
 
+// A request whose type is none that is known.
+fn unknown_of(header: RequestHeader, body: Bytes) -> (i32, Request)
+    ensures { result ≡ (header.xid, requests.Unknown header.kind body) }
+{
+    let kind = header.kind;
+    (header.xid, Request::Unknown { kind, body })
+}
+
 /// Reads a whole body: the xid, and the request. A type that is not served is `Unknown`, with the
 /// rest of the body; the body of auth is not read either. Linear in the body, which has at most
 /// 4,294,967,295 bytes.
@@ -99,8 +108,7 @@ pub fn read_request(alloc: Global, body: &[u8]) -> Result<(i32, Request), NotRea
     }
     let Some(kind) = Kind::of(header.kind) else {
         let body = Bytes::copy_of(alloc, cursor.rest())?;
-        let kind = header.kind;
-        return Ok((header.xid, Request::Unknown { kind, body }));
+        return Ok(unknown_of(header, body));
     };
     let request = read_body(alloc, kind, &mut cursor)?;
     Ok((header.xid, request))
@@ -120,7 +128,7 @@ fn number_of(request: &Request) -> i32
 }
 
 // What follows the header. Without memory a part of it may be there.
-#[tactic(auto, using(jute_core::proofs::Glue::glue, crate::proofs::Requests::fields_are_added))]
+#[tactic(auto, using(jute_core::proofs::Glue::glue))]
 fn put_fields(request: &Request, into: &mut Vec<u8>) -> Result<(), Memory>
     requires { IsShortRequest request.now }
     ensures ok { OnOk result (AddsBytes into.old.items into.new.items
