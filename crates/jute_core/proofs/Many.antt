@@ -11,7 +11,7 @@ use Rattle.jute_core.specs.declared.not_read.NotRead.{NotRead}
 use Rattle.jute_core.specs.declared.not_read.NotRead.TheVariants.{Refused, Memory}
 
 -- one more value behind others
-each_then : {V : Type 0} (R : V → List ℕ → Type 0) (vs : List V) (v : V) (x y : List ℕ) → Each R vs x → R v y → Each R (vs ++ v ∷ []) (x ++ y)
+pub each_then : {V : Type 0} (R : V → List ℕ → Type 0) (vs : List V) (v : V) (x y : List ℕ) → Each R vs x → R v y → Each R (vs ++ v ∷ []) (x ++ y)
 each_then R [] v x y e r = (y, [], r, refl, ap (λ (l : List ℕ). l ++ y) e ∙ sym (append-nil y))
 each_then R (w ∷ ws) v x y e r = (
   e.0,

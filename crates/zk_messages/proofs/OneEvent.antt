@@ -11,7 +11,8 @@ use Rattle.zk_messages.specs.Replies.{event_record, event_fields, IsWrong, IsWro
 use Rattle.zk_messages.specs.declared.reply.Event.{Event}
 use Rattle.zk_messages.proofs.OneForm.{form_read}
 use Rattle.zk_messages.proofs.OneList.{behind}
-use Rattle.zk_messages.proofs.OneWriting.{halves, same_bytes}
+use Rattle.jute_core.proofs.SameSpelling.{same_bytes}
+use Rattle.zk_messages.proofs.OneWriting.{halves}
 
 abbrev event_of : Value event_record → Event
 event_of v = record { kind = v.0; state = v.1.0; path = v.1.1 }

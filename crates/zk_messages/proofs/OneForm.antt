@@ -6,7 +6,7 @@ use Rattle.jute_core.proofs.OneSpelling.{one_spelling}
 use Rattle.jute_core.proofs.ReadOrRefused.{read_or_refused}
 use Rattle.zk_messages.specs.Forms.{Form, FormValue, fields, nothing, operations, results, unread, SpellsForm, RefusedFront, IsFollowed, RefusedForm}
 use Rattle.zk_messages.proofs.OneMulti.{ops_apart, ops_same, ops_read, results_apart, results_same, results_read}
-use Rattle.zk_messages.proofs.OneWriting.{same_bytes}
+use Rattle.jute_core.proofs.SameSpelling.{same_bytes}
 
 -- whether the form is read
 abbrev pub IsRead : Form → Type 0

@@ -3,7 +3,7 @@ use Rattle.std.proofs.Common.{◌≡◌, ℕ, ◌+◌, List, [], ◌∷◌, ◌+
 use Rattle.jute_core.specs.Jute.{Each}
 use Rattle.jute_core.specs.declared.cursor.Reason.{Reason}
 use Rattle.zk_messages.specs.Reading.{Ended, RefusedAmong}
-use Rattle.zk_messages.proofs.OneWriting.{each_same}
+use Rattle.jute_core.proofs.SameSpelling.{each_same}
 
 -- no spelling begins another, and each is of one value
 abbrev pub AreApart : {V : Type 0} → (V → List ℕ → Type 0) → Type 0

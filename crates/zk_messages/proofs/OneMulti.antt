@@ -16,7 +16,8 @@ use Rattle.zk_messages.specs.declared.request.Op.TheVariants as ops
 use Rattle.zk_messages.specs.declared.reply.OpResult.{OpResult}
 use Rattle.zk_messages.specs.declared.reply.OpResult.TheVariants as op_results
 use Rattle.zk_messages.proofs.OneList.{AreApart, AreOne, AreRead, EndsApart, AreNoEnds, EndsRead, behind, ended_apart, ended_same, ended_read}
-use Rattle.zk_messages.proofs.OneWriting.{halves, same_bytes}
+use Rattle.jute_core.proofs.SameSpelling.{same_bytes}
+use Rattle.zk_messages.proofs.OneWriting.{halves}
 use Rattle.zk_messages.proofs.RecordsBack.{create_of, create_back, delete_of, set_content_of, check_of, stat_of}
 
 -- numbers of types

@@ -15,7 +15,7 @@ use Rattle.zk_messages.specs.declared.reply.Reply.{Reply}
 use Rattle.zk_messages.specs.declared.reply.Shape.{Shape}
 use Rattle.zk_messages.specs.declared.reply.Shape.TheVariants as shapes
 use Rattle.zk_messages.proofs.OneForm.{form_one, form_same, form_read}
-use Rattle.zk_messages.proofs.OneWriting.{same_bytes}
+use Rattle.jute_core.proofs.SameSpelling.{same_bytes}
 use Rattle.zk_messages.proofs.RecordsBack.{acls_of, acls_back, stat_of}
 
 -- an outcome without error, from what follows the header

@@ -14,7 +14,7 @@ use Rattle.zk_messages.specs.declared.kind.Kind.TheVariants as kinds
 use Rattle.zk_messages.specs.declared.request.Request.{Request}
 use Rattle.zk_messages.specs.declared.request.Request.TheVariants as requests
 use Rattle.zk_messages.proofs.OneForm.{form_one, form_same, form_read}
-use Rattle.zk_messages.proofs.OneWriting.{same_bytes}
+use Rattle.jute_core.proofs.SameSpelling.{same_bytes}
 use Rattle.zk_messages.proofs.RecordsBack.{create_of, create_back, delete_of, path_watch_of, set_content_of, path_only_of, set_acl_of, set_acl_back, set_watches_of}
 
 -- a number is of one type

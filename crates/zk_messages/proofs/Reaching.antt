@@ -4,17 +4,13 @@ use Rattle.std.proofs.Math.Seq.{take-suc}
 use Rattle.std.proofs.lemmas.List.{append-nil}
 use Rattle.jute_core.specs.Jute.{Jute, Value, Spells, Refused as IsRefused, Each}
 use Rattle.jute_core.specs.Position.{Position, Passes, Adds, Grows}
+use Rattle.jute_core.proofs.Many.{each_then}
 use Rattle.jute_core.specs.Records.{Fails}
 use Rattle.jute_core.specs.declared.cursor.Reason.{Reason}
 use Rattle.jute_core.specs.declared.not_read.NotRead.{NotRead}
 use Rattle.jute_core.specs.declared.not_read.NotRead.TheVariants.{Refused, Memory}
 use Rattle.zk_messages.specs.Reading.{Reaches, FailsAt, Ended, RefusedAmong}
 use Rattle.zk_messages.specs.Sending.{AddsBytes}
-
--- one more value behind others
-each_then : {V : Type 0} (R : V → List ℕ → Type 0) (vs : List V) (v : V) (x y : List ℕ) → Each R vs x → R v y → Each R (vs ++ v ∷ []) (x ++ y)
-each_then R [] v x y e r = (y, [], r, refl, ap (λ (l : List ℕ). l ++ y) e ∙ sym (append-nil y))
-each_then R (w ∷ ws) v x y e r = (e.0, e.1 ++ y, e.2, each_then R ws v e.1 y e.3 r, ap (λ (l : List ℕ). l ++ y) e.4 ∙ append_assoc e.0 e.1 y)
 
 -- reading
 pub reach_passed : (t : Jute) (v : Value t) (a b : Position) → Passes a b t v → Reaches a b (Spells t v)
