@@ -2,7 +2,7 @@
 
 ghost use Rattle.std.specs.Prelude.{◌≡◌, ℕ, List, [], pos, ◌≤ℤ◌, ◌≤◌, length, All, IfOk, IfSome, IfNone, MatchOption, unsigned_abs};
 ghost use Rattle.zk_path.specs.Paths.{HasNoSlash, text_of};
-ghost use Rattle.zk_path.specs.Numbers.{numbered};
+ghost use Rattle.zk_path.specs.Numbers.{numbered, IsPlainName};
 ghost use Rattle.path_seal.specs.Sealed.{OpensStem};
 ghost use Rattle.counter_enclave.specs.Enclave.{IsSealedName};
 
@@ -10,6 +10,19 @@ use jute_core::{Memory, Text};
 use path_seal::{NameKeys, open_stem, seal_path};
 use std::alloc::Global;
 use zk_path::{Numberer, Path, PlainNumberer};
+
+// A component with the ten digits of a number.
+fn with_digits(alloc: Global, name: &str, number: i32) -> Result<Text, Memory>
+    requires not_negative { pos 0 ≤ℤ number }
+    requires short { length name.now ≤ 134217728 }
+    ensures { IfOk result (IsPlainName name.now (unsigned_abs number)) }
+{
+    match PlainNumberer.number(alloc, name, number) {
+        Ok(text) => Ok(text),
+        // The plain numberer has a name for every text.
+        Err(_) => Err(Memory),
+    }
+}
 
 // The path of a stem with a number at its last component. None exactly for the root, which has none.
 #[tactic(auto, using(crate::proofs::Numbering::last_within, crate::proofs::Numbering::name_plain))]
@@ -25,11 +38,8 @@ fn with_number(alloc: Global, stem: &Path, number: i32) -> Result<Option<Path>, 
     let Some(last) = stem.last() else {
         return Ok(None);
     };
-    match PlainNumberer.number(alloc, last, number) {
-        Ok(name) => Ok(Some(parent.joined(name.as_str())?)),
-        // The plain numberer has a name for every text.
-        Err(_) => Err(Memory),
-    }
+    let name = with_digits(alloc, last, number)?;
+    Ok(Some(parent.joined(name.as_str())?))
 }
 
 /// The sealed text of a stem's path with the number, for the sealed text of the stem. None exactly
@@ -46,6 +56,7 @@ pub(crate) fn sealed_name(
     ensures some { IfOk result (λ found. IfSome found (IsSealedName keys.now stem.now (unsigned_abs number))) }
     ensures none { IfOk result (λ found. IfNone found ((parts : List (List ℕ)) → OpensStem keys.now stem.now parts → ⊥)) }
 {
+    // The name's definition asks for it.
     keys.are_keys();
     let Some(stem) = open_stem(alloc, keys, stem)? else {
         return Ok(None);
