@@ -13,5 +13,5 @@ pub rest_kept : (whole less : ℕ) (first : Pending) (all rest : List Pending)
 rest_kept whole less first all rest kept split weighed = record {
   weighed = omega (arith, sum_by-cons weight first rest, ap (sum_by weight) split);
   within = omega arith;
-  asked = All-rest (λ pending. IsAsked pending.asked) first rest all split kept.asked
+  asked = All-rest (λ pending. IsAsked pending.asked) first rest all split kept.asked;
 }

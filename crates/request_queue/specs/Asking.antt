@@ -1,5 +1,5 @@
 -- What a request in a queue may ask.
-use Rattle.std.specs.Prelude.{◌≢◌, ℤ, pos}
+use Rattle.std.specs.Prelude.{◌≢◌, pos}
 use Rattle.request_queue.specs.declared.asked.Asked.{Asked}
 use Rattle.request_queue.specs.declared.asked.Asked.TheVariants.{Refused}
 

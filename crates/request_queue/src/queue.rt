@@ -68,8 +68,8 @@ impl Queue {
     /// Adds a request behind the others, in constant time (amortised).
     ///
     /// # Errors
-    /// `Full` exactly where the weight would pass the limit; it carries that weight. `Memory` comes nowhere else.
-    /// The queue is then as it was.
+    /// `Full` exactly where the weight would pass the limit, with that weight. `Memory` only where it would not.
+    /// After either the queue is as it was.
     pub fn push(&mut self, pending: Pending) -> Result<(), NotPushed>
         requires { IsAsked pending.asked }
         ensures ok { OnOk result (self.new ≡ self.old ++ pending ∷ []) }
