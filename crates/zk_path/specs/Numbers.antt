@@ -16,6 +16,10 @@ abbrev pub numbered : List (List ℕ) → ℕ → List (List ℕ)
 numbered [] i = []
 numbered (n ∷ p) i = (n ++ ten_digits i) ∷ p
 
+-- the plain name of a stem's text and a number: the digits follow
+abbrev pub IsPlainName : List ℕ → ℕ → List ℕ → Type 0
+IsPlainName stem number text = text ≡ stem ++ ten_digits number
+
 -- ten digits follow the front, whatever their number
 pub record EndsInTenDigits (whole front : List ℕ) : Type 0 where
   pub digits : List ℕ

@@ -1,5 +1,5 @@
 -- Digits keep a stem's last component legal. These lemmas stand among the definitions because the law of an impl cites them.
-use Rattle.std.specs.Prelude.{◌≡◌, ◌≢◌, ℕ, ◌+◌, ◌<◌, List, [], ◌∷◌, ◌++◌, Option, Some, length, All}
+use Rattle.std.specs.Prelude.{◌≡◌, ◌≢◌, ℕ, ◌+◌, ◌<◌, List, [], ◌∷◌, ◌++◌, length, All}
 use Rattle.std.specs.Char.{IsAsciiDigit}
 use Rattle.std.specs.Str.{IsUtf8, IsAscii, chars}
 use Rattle.std.proofs.Common.{zero, suc, get_or, take, sym, ap, subst, ◌∙◌, refl, arith, append_assoc, length-append, inl, inr}
@@ -7,7 +7,7 @@ use Rattle.std.proofs.lemmas.List.{take-append-le, get_or-append-add}
 use Rattle.std.proofs.lemmas.List.Elements.{All-nil, All-cons, All-head, All-tail, All-append, All-weaker, All-map, All-same}
 use Rattle.std.proofs.lemmas.Str.{IsUtf8-take, IsUtf8-append, IsUtf8-from_ascii, IsCharBoundary-before_ascii, chars-append, chars-IsAscii}
 use Rattle.zk_path.specs.Paths.{IsForbidden, HasNoSlash, IsComponent, IsStemEnd, joined}
-use Rattle.zk_path.specs.Numbers.{digit_at, ten_digits, IsNumberingOf}
+use Rattle.zk_path.specs.Numbers.{digit_at, ten_digits, IsNumberingOf, IsPlainName}
 
 abbrev AreAllowed : List ℕ → Type 0
 AreAllowed cs = All (λ c. IsForbidden c → ⊥) cs
@@ -108,19 +108,16 @@ pub length-ten_digits : (i : ℕ) → length (ten_digits i) ≡ 10
 unfolding ten_digits
 length-ten_digits i = refl
 
--- the digits after any stem
-abbrev pub plain_name : List ℕ → ℕ → Option (List ℕ)
-plain_name stem number = Some (stem ++ ten_digits number)
-
-pub plain_name_keeps : (stem : List ℕ) (number : ℕ) (text : List ℕ) → plain_name stem number ≡ Some text → IsNumberingOf stem text
+pub plain_name_keeps : (stem : List ℕ) (number : ℕ) (text : List ℕ) → IsPlainName stem number text → IsNumberingOf stem text
 unfolding joined
-plain_name_keeps stem number text h =
-    let same : stem ++ ten_digits number ≡ text = cc in
-    record {
-      short = omega (arith, ap length same, length-append stem (ten_digits number), length-ten_digits number);
-      legal = λ n p s e. (
-        n ++ ten_digits number,
-        All-cons IsComponent (n ++ ten_digits number) p (numbered_is_component n number s.0) s.1,
-        sym same ∙ ap (λ (l : List ℕ). l ++ ten_digits number) e ∙ append_assoc (joined p) (47 ∷ n) (ten_digits number),
-      );
-    }
+plain_name_keeps stem number text same = record {
+  short = omega (arith, ap length same, length-append stem (ten_digits number), length-ten_digits number);
+  legal = λ n p s e. (
+    n ++ ten_digits number,
+    All-cons IsComponent (n ++ ten_digits number) p (numbered_is_component n number s.0) s.1,
+    same ∙ ap (λ (l : List ℕ). l ++ ten_digits number) e ∙ append_assoc (joined p) (47 ∷ n) (ten_digits number),
+  );
+}
+
+pub one_plain_name : (stem : List ℕ) (number : ℕ) (text other : List ℕ) → IsPlainName stem number text → IsPlainName stem number other → text ≡ other
+one_plain_name stem number text other h k = h ∙ sym k

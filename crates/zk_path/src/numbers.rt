@@ -1,7 +1,7 @@
 //! Sequence numbers.
 
-ghost use Rattle.std.specs.Prelude.{◌≡◌, ℕ, pos, ◌≤ℤ◌, ◌≤◌, List, ◌++◌, ◌%◌, ◌+◌, length, Option, Some, None, IfOk, MatchOption, unsigned_abs};
-ghost use Rattle.zk_path.specs.Numbers.{ten_digits, EndsInTenDigits, IsNumberingOf};
+ghost use Rattle.std.specs.Prelude.{◌≡◌, ◌≢◌, ◌↔◌, ℕ, pos, ◌≤ℤ◌, ◌≤◌, List, ◌%◌, ◌+◌, length, IfOk, MatchOption, unsigned_abs};
+ghost use Rattle.zk_path.specs.Numbers.{ten_digits, EndsInTenDigits, IsNumberingOf, IsPlainName};
 
 use jute_core::Text;
 use std::alloc::{AllocError, Global};
@@ -69,31 +69,40 @@ impl From<AllocError> for CannotNumber {
 
 /// Gives the names of sequential nodes. Which name a stem and a number have is fixed: no call changes it.
 pub trait Numberer {
-    /// The text of the path with this number, if there is one.
-    ghost names: { Self → List ℕ → ℕ → Option (List ℕ) };
+    /// The text is that of the stem's path with the number.
+    ghost named: { Self → List ℕ → ℕ → List ℕ → Type 0 };
 
     /// The whole path's text for a stem's text and a number. CannotOpen exactly where there is no name.
     fn number(&mut self, alloc: Global, stem: &str, number: i32) -> Result<Text, CannotNumber>
         requires not_negative { pos 0 ≤ℤ number }
         requires short { length stem.now ≤ 134217728 }
-        ensures named { IfOk result (λ text. names self.old stem.now (unsigned_abs number) ≡ Some text) }
-        ensures cannot_open { result ≡ Err CannotNumber.CannotOpen → names self.old stem.now (unsigned_abs number) ≡ None }
-        ensures fixed { names self.new ≡ names self.old };
+        ensures named { IfOk result (λ text. named self.old stem.now (unsigned_abs number) text) }
+        ensures cannot_open { result ≡ Err CannotNumber.CannotOpen → (text : List ℕ) → named self.old stem.now (unsigned_abs number) text → ⊥ }
+        ensures fixed { (stem : List ℕ) (number : ℕ) (text : List ℕ) → named self.new stem number text ↔ named self.old stem number text };
 
-    // A law of every numberer: the name is short, and stands where its stem stands.
-    ghost keeps: { (numberer : Self) (stem : List ℕ) (number : ℕ) (text : List ℕ) → names numberer stem number ≡ Some text → IsNumberingOf stem text };
+    // Laws of every numberer: a name is short, and stands where its stem stands;
+    ghost keeps: { (numberer : Self) (stem : List ℕ) (number : ℕ) (text : List ℕ) → named numberer stem number text → IsNumberingOf stem text };
+
+    // and a stem and a number have at most one.
+    ghost one: { (numberer : Self) (stem : List ℕ) (number : ℕ) (text other : List ℕ) → named numberer stem number text → named numberer stem number other → text ≡ other };
 }
 
-/// Appends the digits to any stem.
+/// Appends the digits to any stem, so it never answers CannotOpen.
 #[derive(Clone, Copy, Debug, Drop)]
 pub struct PlainNumberer;
 
 impl Numberer for PlainNumberer {
-    ghost use Rattle.zk_path.specs.WithDigits.{plain_name, plain_name_keeps};
+    ghost use Rattle.zk_path.specs.Numbers.{IsPlainName};
+    ghost use Rattle.zk_path.specs.WithDigits.{plain_name_keeps, one_plain_name};
 
-    ghost names = { λ _. plain_name };
+    ghost named = { λ _. IsPlainName };
 
-    fn number(&mut self, alloc: Global, stem: &str, number: i32) -> Result<Text, CannotNumber> {
+    fn number(&mut self, alloc: Global, stem: &str, number: i32) -> Result<Text, CannotNumber>
+        requires not_negative { pos 0 ≤ℤ number }
+        requires short { length stem.now ≤ 134217728 }
+        ensures named { IfOk result (IsPlainName stem.now (unsigned_abs number)) }
+        ensures opens { result ≢ Err CannotNumber.CannotOpen }
+    {
         let mut text = String::with_capacity(alloc, stem.len() + 10)?;
         text.push_str(stem)?;
         for digit in digits(number) {
@@ -103,4 +112,6 @@ impl Numberer for PlainNumberer {
     }
 
     ghost keeps = { λ _. plain_name_keeps };
+
+    ghost one = { λ _. one_plain_name };
 }

@@ -1,4 +1,4 @@
-use Rattle.std.proofs.Common.{Some, ℕ, ◌++◌, ◌∙◌, sym, ap, unsigned_abs, w32}
+use Rattle.std.proofs.Common.{ℕ, ◌++◌, ◌∙◌, ap, unsigned_abs, w32}
 use Rattle.std.proofs.lemmas.Int.{to_z-of_z}
 use Rattle.zk_path.specs.Numbers.{ten_digits}
 use Rattle.zk_path.proofs.Numbered.{push_digit, all_digits}
@@ -11,4 +11,4 @@ loop-digit-preserved c =
 pub returns-clause-named : goal.returns-clause-named
 returns-clause-named c =
     let number = ap unsigned_abs (to_z-of_z w32 c.args.number c.ranges.number) in
-    ap Some (sym (c.of.ensures ∙ all_digits c.args.stem.now _ _ _ _ c.digits-digit-items.ensures c.loop-digit.invariant c.loop-digit-test.false ∙ ap (λ (i : ℕ). c.args.stem.now ++ ten_digits i) number))
+    c.of.ensures ∙ all_digits c.args.stem.now _ _ _ _ c.digits-digit-items.ensures c.loop-digit.invariant c.loop-digit-test.false ∙ ap (λ (i : ℕ). c.args.stem.now ++ ten_digits i) number

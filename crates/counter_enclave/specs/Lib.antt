@@ -1,0 +1,2 @@
+pub mod Enclave
+pub mod SealedStems
