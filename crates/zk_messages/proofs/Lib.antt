@@ -10,5 +10,6 @@ pub mod OneRequest
 pub mod OneWriting
 pub mod Reaching
 pub mod RecordsBack
+pub mod FirstRules
 pub mod Replies
 pub mod Requests

@@ -9,3 +9,4 @@ pub mod Sending
 pub mod Items
 pub mod Sent
 pub mod Laws
+pub mod Refuses

@@ -13,6 +13,7 @@ mod asking;
 mod kind;
 mod laws;
 mod multi;
+mod refusals;
 mod reply;
 mod request;
 
@@ -20,5 +21,6 @@ pub use answering::{read_event, read_reply, reply_xid, write_event, write_reply}
 pub use asking::{read_request, write_request};
 pub use kind::{Kind, OpKind};
 pub use laws::{one_event, one_reply, one_request};
+pub use refusals::{one_outcome, refusal_of};
 pub use reply::{Event, OpResult, Outcome, Reply, Results, Shape};
 pub use request::{Item, Op, Ops, Request};
