@@ -1,5 +1,5 @@
 -- Items, a frame each: laws over lists that are joined, and that a body is one item.
-use Rattle.std.proofs.Common.{◌≡◌, ℕ, ℤ, ◌≤◌, List, [], ◌∷◌, ◌++◌, length, Bool, true, false, refl, sym, ap, subst, ◌∙◌, append_assoc, arith}
+use Rattle.std.proofs.Common.{◌≡◌, ℕ, ℤ, ◌≤◌, List, [], ◌∷◌, ◌++◌, length, Bool, true, false, sym, ap, subst, ◌∙◌, append_assoc, arith}
 use Rattle.jute_core.specs.Frames.{frame, FitsFrame}
 use Rattle.zk_records.proofs.OneConnect.{one_request as one_connect}
 use Rattle.zk_messages.proofs.OneRequest.{one_request}

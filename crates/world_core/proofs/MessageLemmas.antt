@@ -8,7 +8,6 @@ use Rattle.jute_core.specs.declared.held.Memory.{Memory}
 use Rattle.zk_messages.specs.Forms.{SpellsForm}
 use Rattle.zk_messages.specs.Replies.{SpellsOutcome, SpellsReply}
 use Rattle.zk_messages.specs.Sending.{AddsBytes}
-use Rattle.zk_messages.specs.declared.reply.Outcome.{Outcome}
 use Rattle.zk_messages.specs.declared.reply.Outcome.TheVariants.{Empty, Stat as HasStat}
 use Rattle.zk_messages.specs.declared.reply.Shape.TheVariants as shapes
 use Rattle.zk_records.specs.Connect.{older_response, SpellsConnected}

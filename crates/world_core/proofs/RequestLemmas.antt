@@ -1,5 +1,5 @@
 -- Items that are not of the first form.
-use Rattle.std.proofs.Common.{◌≡◌, ℕ, ℤ, List, true, false, Bool, Result, Err, sym, ap, subst}
+use Rattle.std.proofs.Common.{◌≡◌, ℕ, ℤ, List, true, false, Bool, Result, Err, ap, subst}
 use Rattle.jute_core.specs.declared.cursor.Reason.{Reason}
 use Rattle.zk_messages.proofs.OneRequest.{one_request, request_or_refused}
 use Rattle.zk_messages.specs.Items.{IsItem}
