@@ -2,9 +2,9 @@
 use Rattle.std.proofs.Common.{◌≡◌, ℕ, ◌+◌, ◌<◌, ◌≤◌, List, [], ◌∷◌, ◌++◌, length, refl, sym, ap, subst, arith, length-append}
 use Rattle.jute_core.specs.Frames.{frame}
 use Rattle.world_core.specs.declared.form.Stage.{Stage}
-use Rattle.world_core.specs.declared.request.Item.{Item}
-use Rattle.world_core.specs.Items.{IsItem}
-use Rattle.world_core.specs.Sent.{client_limit, HasNoFrame}
+use Rattle.zk_messages.specs.declared.request.Item.{Item}
+use Rattle.zk_messages.specs.Items.{IsItem}
+use Rattle.zk_messages.specs.Sent.{client_limit, HasNoFrame}
 use Rattle.world_core.specs.FirstForm.{frame_limit}
 use Rattle.world_core.specs.Stages.{is_fresh, MayFollow, LeadsTo, FormFrom}
 use Rattle.world_core.proofs.Forms.{form_opens, form_rest, form_more, form_end, form_no_frame}

@@ -2,13 +2,13 @@
 use Rattle.std.proofs.Common.{◌≡◌, ℕ, ◌+◌, ◌<◌, ◌≤◌, List, [], ◌∷◌, ◌++◌, length, Bool, false, refl, sym, ap, subst, arith}
 use Rattle.jute_core.specs.Frames.{frame}
 use Rattle.jute_core.proofs.OneStream.{one_frame}
-use Rattle.world_core.specs.declared.request.Request.TheVariants.{Exists, Ping, Close}
-use Rattle.world_core.specs.declared.request.Item.{Item}
-use Rattle.world_core.specs.declared.request.Item.TheVariants.{Asks, Requests}
+use Rattle.zk_messages.specs.declared.request.Request.TheVariants.{Close}
+use Rattle.zk_messages.specs.declared.request.Item.{Item}
+use Rattle.zk_messages.specs.declared.request.Item.TheVariants.{Asks, Requests}
 use Rattle.world_core.specs.declared.form.Stage.{Stage}
 use Rattle.world_core.specs.declared.form.Stage.TheVariants.{Fresh, Open, Closed}
-use Rattle.world_core.specs.Items.{IsItem}
-use Rattle.world_core.specs.Sent.{client_limit, Items, HasNoFrame}
+use Rattle.zk_messages.specs.Items.{IsItem}
+use Rattle.zk_messages.specs.Sent.{client_limit, Items, HasNoFrame}
 use Rattle.world_core.specs.FirstForm.{AreFirstRequests, AreFirst, frame_limit}
 use Rattle.world_core.specs.Stages.{is_fresh, MayFollow, stage_after, AllFollow, FormFrom}
 use Rattle.world_core.proofs.ItemLemmas.{frame_some, fits_frame, one_item}
@@ -19,9 +19,8 @@ unfolding AreFirst AreFirstRequests
 follow_more Fresh (Asks asked) items may h = (may, h)
 follow_more Fresh (Requests xid request) items may h = absurd may
 follow_more Open (Asks asked) items may h = absurd may
-follow_more Open (Requests xid (Exists asked)) items may h = (may, h)
-follow_more Open (Requests xid Ping) items may h = (may, h)
 follow_more Open (Requests xid Close) items may h = h
+follow_more Open (Requests xid request) items may h = (may, h)
 follow_more Closed item items may h = absurd may
 
 pub record Follows (stage : Stage) (item : Item) (items : List Item) : Type 0 where
@@ -36,17 +35,15 @@ unfolding AreFirst AreFirstRequests
 follow_first Fresh (Asks asked) items h = record { may = h.0; rest = h.1 }
 follow_first Fresh (Requests xid request) items h = absurd h
 follow_first Open (Asks asked) items h = absurd h
-follow_first Open (Requests xid (Exists asked)) items h = record { may = h.0; rest = h.1 }
-follow_first Open (Requests xid Ping) items h = record { may = h.0; rest = h.1 }
 follow_first Open (Requests xid Close) items h = record { may = tt; rest = h }
+follow_first Open (Requests xid request) items h = record { may = h.0; rest = h.1 }
 follow_first Closed item items h = absurd (no_items item items h)
 
 -- after an item that may follow, the next frame is not the first
 pub fresh_after : (item : Item) → is_fresh (stage_after item) ≡ false
 fresh_after (Asks asked) = refl
-fresh_after (Requests xid (Exists asked)) = refl
-fresh_after (Requests xid Ping) = refl
 fresh_after (Requests xid Close) = refl
+fresh_after (Requests xid request) = refl
 
 -- A form that begins with a frame
 

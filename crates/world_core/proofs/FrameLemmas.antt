@@ -6,7 +6,7 @@ use Rattle.std.proofs.lemmas.Int.{ints}
 use Rattle.jute_core.specs.Jute.{int_bytes}
 use Rattle.jute_core.specs.Frames.{frame}
 use Rattle.jute_core.proofs.OneSpelling.{ints_apart}
-use Rattle.world_core.specs.Sent.{client_limit, HasNoFrame}
+use Rattle.zk_messages.specs.Sent.{client_limit, HasNoFrame}
 use Rattle.world_core.proofs.ItemLemmas.{frame_some}
 
 frame_begins : (body more : List ℕ) → frame body ++ more ≡ int_bytes (pos (length body)) ++ (body ++ more)

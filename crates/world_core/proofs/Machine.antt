@@ -1,15 +1,17 @@
 -- A run of the plain machine over items of the first form.
 use Rattle.std.proofs.Common.{◌≡◌, ℕ, ℤ, pos, List, [], ◌∷◌, ◌++◌, length, Some, refl, sym, ap, subst, arith}
-use Rattle.std.specs.Prelude.{if◌then◌else◌, ◌≤ℤ◌, ◌==◌}
+use Rattle.std.specs.Prelude.{if◌then◌else◌, ◌≤ℤ◌, ◌==◌, IsSome}
 use Rattle.std.proofs.lemmas.Int.{ints}
 use Rattle.zk_records.specs.declared.connect.ConnectRequest.{ConnectRequest}
+use Rattle.zk_records.specs.declared.path_watch.PathWatch.{PathWatch}
 use Rattle.world_core.specs.declared.entry.Entry.{Entry}
-use Rattle.world_core.specs.declared.request.Request.TheVariants.{Exists, Ping, Close}
-use Rattle.world_core.specs.declared.request.Item.{Item}
-use Rattle.world_core.specs.declared.request.Item.TheVariants.{Asks, Requests}
+use Rattle.zk_messages.specs.declared.request.Request.{Request}
+use Rattle.zk_messages.specs.declared.request.Request.TheVariants.{Exists, Ping, Close}
+use Rattle.zk_messages.specs.declared.request.Item.{Item}
+use Rattle.zk_messages.specs.declared.request.Item.TheVariants.{Asks, Requests}
 use Rattle.world_core.specs.declared.message.Message.{Message}
 use Rattle.world_core.specs.State.{State, start, session_of}
-use Rattle.world_core.specs.Step.{Next, step, outputs, to_connection, out}
+use Rattle.world_core.specs.Step.{Next, answer, step, outputs, to_connection, out}
 use Rattle.world_core.specs.Order.{clamped, IsNext, LegalFrom, HasNoConnect, ConnectsOnce, Legal}
 use Rattle.world_core.specs.Fill.{fill, filled, without_first}
 use Rattle.world_core.specs.Veiled.{VeilsItems, VeilsOrder}
@@ -38,11 +40,23 @@ outputs_more s t item es ms e h = output_more t item (step s (entry_of item)) es
 last_of : (s t : State) (item : Item) → step s (entry_of item) ≡ next_of t item → (step s (entry_of item)).state.last ≡ t.last
 last_of s t item e = ap (λ (n : Next). n.state.last) e
 
-has_session : (timeout : ℤ) → session_of 1 (opened timeout).sessions ≡ Some (pos 1)
-unfolding session_of
-has_session timeout = refl
+-- a request that comes in a session, and is one that the machine answers
+abbrev HasAnswer : ℤ → Request → Type 0
+HasAnswer timeout request = (session : ℤ) × (session_of 1 (opened timeout).sessions ≡ Some session) × IsSome (answer 1 session (opened timeout) request)
 
 -- Requests in an open session
+
+exists_next : (timeout : ℤ) (asked : PathWatch) → HasAnswer timeout (Exists asked)
+unfolding answer session_of
+exists_next timeout asked = (pos 1, refl, refl)
+
+ping_next : (timeout : ℤ) → HasAnswer timeout Ping
+unfolding answer session_of
+ping_next timeout = (pos 1, refl, refl)
+
+close_next : (timeout : ℤ) → HasAnswer timeout Close
+unfolding answer session_of
+close_next timeout = (pos 1, refl, refl)
 
 legal_none : (s : State) → LegalFrom passwords s (order_of [])
 unfolding LegalFrom order_of
@@ -54,13 +68,14 @@ requests_legal timeout [] h = legal_none (opened timeout)
 requests_legal timeout (Asks asked ∷ items) h = absurd h
 requests_legal timeout (Requests xid (Exists asked) ∷ items) h =
     let e = exists_step timeout xid asked h.0.0 h.0.1 in
-    legal_more (opened timeout) (opened timeout) (Requests xid (Exists asked)) (order_of items) e ((pos 1, has_session timeout), sym (last_of _ _ (Requests xid (Exists asked)) e)) (requests_legal timeout items h.1)
+    legal_more (opened timeout) (opened timeout) (Requests xid (Exists asked)) (order_of items) e (exists_next timeout asked, sym (last_of _ _ (Requests xid (Exists asked)) e)) (requests_legal timeout items h.1)
 requests_legal timeout (Requests xid Ping ∷ items) h =
     let e = ping_step timeout xid in
-    legal_more (opened timeout) (opened timeout) (Requests xid Ping) (order_of items) e ((pos 1, has_session timeout), sym (last_of _ _ (Requests xid Ping) e)) (requests_legal timeout items h.1)
+    legal_more (opened timeout) (opened timeout) (Requests xid Ping) (order_of items) e (ping_next timeout, sym (last_of _ _ (Requests xid Ping) e)) (requests_legal timeout items h.1)
 requests_legal timeout (Requests xid Close ∷ items) h =
     let e = close_step timeout xid in
-    legal_more (opened timeout) closed (Requests xid Close) (order_of items) e ((pos 1, has_session timeout), sym (last_of _ _ (Requests xid Close) e)) (subst (λ (is : List Item). LegalFrom passwords closed (order_of is)) (sym h) (legal_none closed))
+    legal_more (opened timeout) closed (Requests xid Close) (order_of items) e (close_next timeout, sym (last_of _ _ (Requests xid Close) e)) (subst (λ (is : List Item). LegalFrom passwords closed (order_of is)) (sym h) (legal_none closed))
+requests_legal timeout (Requests xid request ∷ items) h = absurd h.0
 
 no_outputs : (s : State) → to_connection 1 (outputs s (order_of [])) ≡ messages_of []
 unfolding outputs to_connection order_of messages_of
@@ -77,14 +92,14 @@ requests_outputs timeout (Requests xid Ping ∷ items) h =
 requests_outputs timeout (Requests xid Close ∷ items) h =
     outputs_more (opened timeout) closed (Requests xid Close) (order_of items) (messages_of items) (close_step timeout xid)
     (subst (λ (is : List Item). to_connection 1 (outputs closed (order_of is)) ≡ messages_of is) (sym h) (no_outputs closed))
+requests_outputs timeout (Requests xid request ∷ items) h = absurd h.0
 
 requests_connect_not : (items : List Item) → AreFirstRequests items → HasNoConnect 1 (order_of items) × ConnectsOnce (order_of items)
 unfolding AreFirstRequests order_of HasNoConnect ConnectsOnce
 requests_connect_not [] h = (tt, tt)
 requests_connect_not (Asks asked ∷ items) h = absurd h
-requests_connect_not (Requests xid (Exists asked) ∷ items) h = requests_connect_not items h.1
-requests_connect_not (Requests xid Ping ∷ items) h = requests_connect_not items h.1
 requests_connect_not (Requests xid Close ∷ items) h = requests_connect_not items (subst AreFirstRequests (sym h) tt)
+requests_connect_not (Requests xid request ∷ items) h = requests_connect_not items h.1
 
 -- The whole run
 
@@ -143,6 +158,7 @@ veils_same (Requests xid Ping ∷ items) h =
 veils_same (Requests xid Close ∷ items) h =
     let r = veils_same items (subst AreFirstRequests (sym h) tt) in
     (((refl, refl, refl, refl, refl), r.0), ((refl, refl), r.1))
+veils_same (Requests xid request ∷ items) h = absurd h.0
 
 pub run_veils : (items : List Item) → AreFirst items → VeilsOrder (order_of items) (order_of items) × VeilsItems items items
 unfolding AreFirst order_of VeilsOrder VeilsItems

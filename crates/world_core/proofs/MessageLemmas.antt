@@ -4,8 +4,12 @@ use Rattle.std.specs.Prelude.{OnOk, ◌<◌}
 use Rattle.jute_core.specs.Jute.{Jute, Value, Spells, int, long, boolean, buffer, pair}
 use Rattle.jute_core.specs.Frames.{frame}
 use Rattle.jute_core.specs.Position.{Adds, Appends}
-use Rattle.jute_core.proofs.Glue.{add_then}
 use Rattle.jute_core.specs.declared.held.Memory.{Memory}
+use Rattle.zk_messages.specs.Forms.{SpellsForm}
+use Rattle.zk_messages.specs.Replies.{SpellsOutcome, SpellsReply}
+use Rattle.zk_messages.specs.Sending.{AddsBytes}
+use Rattle.zk_messages.specs.declared.reply.Outcome.TheVariants.{Empty, Stat as HasStat}
+use Rattle.zk_messages.specs.declared.reply.Shape.TheVariants as shapes
 use Rattle.zk_records.specs.Connect.{older_response, SpellsConnected}
 use Rattle.zk_records.specs.Headers.{reply_header}
 use Rattle.zk_records.specs.Stats.{stat, stat_fields}
@@ -15,27 +19,16 @@ use Rattle.world_core.specs.Step.{read_only_of}
 use Rattle.world_core.specs.Messages.{SpellsMessage}
 use Rattle.world_core.specs.Headline.{first_password}
 use Rattle.world_core.specs.FirstOrder.{root_stat, message_of}
-use Rattle.world_core.specs.declared.request.Request.TheVariants.{Exists, Ping, Close}
-use Rattle.world_core.specs.declared.request.Item.{Item}
-use Rattle.world_core.specs.declared.request.Item.TheVariants.{Asks, Requests}
-use Rattle.world_core.specs.Sending.{AddsBody}
+use Rattle.zk_messages.specs.declared.request.Request.TheVariants.{Exists, Close}
+use Rattle.zk_messages.specs.declared.request.Item.{Item}
+use Rattle.zk_messages.specs.declared.request.Item.TheVariants.{Asks, Requests}
 
--- a value that was appended, as a body of a kind that its spellings are of
-pub body_added : (r : Result Unit Memory) (old new : List ℕ) (t : Jute) (v : Value t) (IsBody : List ℕ → Type 0) → ((b : List ℕ) → Spells t v b → IsBody b) → Appends old new t v r → OnOk r (AddsBody old new IsBody)
-body_added (Ok x) old new t v IsBody f p = record { body = p.bytes; is = f p.bytes p.spelled; added = p.added }
-body_added (Err e) old new t v IsBody f p = tt
+-- a value that was appended, as bytes that its spellings are
+pub value_added : (r : Result Unit Memory) (old new : List ℕ) (t : Jute) (v : Value t) (Is : List ℕ → Type 0) → ((b : List ℕ) → Spells t v b → Is b) → Appends old new t v r → OnOk r (AddsBytes old new Is)
+value_added (Ok x) old new t v Is f p = record { bytes = p.bytes; is = f p.bytes p.spelled; added = p.added }
+value_added (Err e) old new t v Is f p = tt
 
--- two values, one after another
-pub two_added : (r : Result Unit Memory) (old mid new : List ℕ) (s t : Jute) (v : Value s) (w : Value t) (IsBody : List ℕ → Type 0) → ((b : List ℕ) → Spells (pair s t) (v, w) b → IsBody b) → Adds old mid s v → Appends mid new t w r → OnOk r (AddsBody old new IsBody)
-two_added (Ok x) old mid new s t v w IsBody f p q = let both = add_then s t v w old mid new p q in record { body = both.bytes; is = f both.bytes both.spelled; added = both.added }
-two_added (Err e) old mid new s t v w IsBody f p q = tt
-
--- a body of one kind is one of another
-pub other_kind : (r : Result Unit Memory) (old new : List ℕ) (P Q : List ℕ → Type 0) → ((b : List ℕ) → P b → Q b) → OnOk r (AddsBody old new P) → OnOk r (AddsBody old new Q)
-other_kind (Ok x) old new P Q f h = record { body = h.body; is = f h.body h.is; added = h.added }
-other_kind (Err e) old new P Q f h = tt
-
--- How long answers are
+-- How long the answers are
 
 int_size : (z : ℤ) (b : List ℕ) → Spells int z b → length b ≡ 4
 unfolding Spells
@@ -94,14 +87,25 @@ connected_size (Some x) a b c p body h =
     let k = pair_size older_response boolean (a, (b, (c, Some p))) false (20 + length p) 1 body (λ y m. older_size a b c p y m) (λ y m. at_most _ _ (boolean_size false y m)) h in
     omega (arith, k)
 
+empty_short : (xid zxid : ℤ) (body : List ℕ) → SpellsReply shapes.Empty (record { xid = xid; zxid = zxid; outcome = Empty }) body → length body < 2 ^ 31
+unfolding SpellsOutcome
+empty_short xid zxid body h =
+    let head = header_size xid zxid (pos 0) h.header h.head in
+    omega (arith, head, ap length h.tail, ap length h.cut, length-append h.header h.rest)
+
+stat_short : (xid zxid : ℤ) (s : Stat) (body : List ℕ) → SpellsReply shapes.Stat (record { xid = xid; zxid = zxid; outcome = HasStat s }) body → length body < 2 ^ 31
+unfolding SpellsOutcome SpellsForm
+stat_short xid zxid s body h =
+    let head = header_size xid zxid (pos 0) h.header h.head in
+    let tail = stat_size s h.rest h.tail in
+    omega (arith, head, tail, ap length h.cut, length-append h.header h.rest)
+
 pub answer_short : (item : Item) (body : List ℕ) → SpellsMessage (message_of item) body → length body < 2 ^ 31
 unfolding SpellsMessage
 answer_short (Asks asked) body h = let k = connected_size asked.read_only (pos 0) (clamped asked.timeout) (pos 1) first_password body h in omega (arith, k)
-answer_short (Requests xid (Exists watch)) body h =
-    let k = pair_size reply_header stat (xid, (pos 1, pos 0)) (stat_fields root_stat) 16 68 body (λ y m. header_size xid (pos 1) (pos 0) y m) (λ y m. stat_size root_stat y m) h in
-    omega (arith, k)
-answer_short (Requests xid Ping) body h = let k = header_size xid (pos 1) (pos 0) body h in omega (arith, k)
-answer_short (Requests xid Close) body h = let k = header_size xid (pos 2) (pos 0) body h in omega (arith, k)
+answer_short (Requests xid (Exists watch)) body h = stat_short xid (pos 1) root_stat body (h shapes.Stat tt)
+answer_short (Requests xid Close) body h = empty_short xid (pos 2) body (h shapes.Empty tt)
+answer_short (Requests xid request) body h = empty_short xid (pos 1) body (h shapes.Empty tt)
 
 -- a buffer that was added is a frame
 pub framed : (old new body : List ℕ) → Adds old new buffer (Some body) → new ≡ old ++ frame body

@@ -1,7 +1,7 @@
 -- Orders and messages of items that are joined.
 use Rattle.std.proofs.Common.{◌≡◌, List, [], ◌∷◌, ◌++◌, refl, ap}
 use Rattle.world_core.specs.declared.entry.Entry.{Entry}
-use Rattle.world_core.specs.declared.request.Item.{Item}
+use Rattle.zk_messages.specs.declared.request.Item.{Item}
 use Rattle.world_core.specs.declared.message.Message.{Message}
 use Rattle.world_core.specs.FirstOrder.{entry_of, message_of, order_of, messages_of}
 

@@ -4,9 +4,9 @@ use Rattle.std.specs.Prelude.{codes}
 use Rattle.zk_path.specs.Paths.{text_of}
 use Rattle.zk_records.specs.declared.connect.ConnectRequest.{ConnectRequest}
 use Rattle.zk_records.specs.declared.path_watch.PathWatch.{PathWatch}
-use Rattle.world_core.specs.declared.request.Request.TheVariants.{Exists, Ping, Close}
-use Rattle.world_core.specs.declared.request.Item.{Item}
-use Rattle.world_core.specs.declared.request.Item.TheVariants.{Asks, Requests}
+use Rattle.zk_messages.specs.declared.request.Request.TheVariants.{Exists, Ping, Close}
+use Rattle.zk_messages.specs.declared.request.Item.{Item}
+use Rattle.zk_messages.specs.declared.request.Item.TheVariants.{Asks, Requests}
 use Rattle.world_core.specs.State.{State, start, no_numbers, find, child_count, stat_of, watching_if, of_others, session_of, heard_at, without_session}
 use Rattle.world_core.specs.Step.{Next, Output, step, taken, answer, exists_outcome}
 use Rattle.world_core.specs.Order.{clamped}

@@ -5,14 +5,14 @@ use Rattle.std.proofs.lemmas.List.{append-nil, take-append-drop, drop_all, drop_
 use Rattle.jute_core.specs.Frames.{frame, FitsFrame, IsRest}
 use Rattle.jute_core.proofs.OneStream.{one_frame}
 use Rattle.world_core.specs.declared.entry.Entry.{Entry}
-use Rattle.world_core.specs.declared.request.Request.TheVariants.{Exists, Ping, Close}
-use Rattle.world_core.specs.declared.request.Item.{Item}
-use Rattle.world_core.specs.declared.request.Item.TheVariants.{Asks, Requests}
+use Rattle.zk_messages.specs.declared.request.Request.TheVariants.{Close}
+use Rattle.zk_messages.specs.declared.request.Item.{Item}
+use Rattle.zk_messages.specs.declared.request.Item.TheVariants.{Asks, Requests}
 use Rattle.world_core.specs.declared.message.Message.{Message}
 use Rattle.world_core.specs.declared.form.Stage.{Stage}
 use Rattle.world_core.specs.declared.form.Stage.TheVariants.{Fresh, Closed}
-use Rattle.world_core.specs.Items.{IsItem}
-use Rattle.world_core.specs.Sent.{client_limit, Items, is_first, HasNoFrame}
+use Rattle.zk_messages.specs.Items.{IsItem}
+use Rattle.zk_messages.specs.Sent.{client_limit, Items, is_first, HasNoFrame}
 use Rattle.world_core.specs.Messages.{SpellsMessage, Messages}
 use Rattle.world_core.specs.Step.{out}
 use Rattle.world_core.specs.Order.{Legal}
@@ -38,10 +38,9 @@ requests_front : (a b : List Item) → AreFirstRequests (a ++ b) → AreFirstReq
 unfolding AreFirstRequests
 requests_front [] b h = tt
 requests_front (Asks asked ∷ a) b h = absurd h
-requests_front (Requests xid (Exists asked) ∷ a) b h = (h.0, requests_front a b h.1)
-requests_front (Requests xid Ping ∷ a) b h = (h.0, requests_front a b h.1)
 requests_front (Requests xid Close ∷ []) b h = refl
 requests_front (Requests xid Close ∷ item ∷ a) b h = absurd (no_items item (a ++ b) h)
+requests_front (Requests xid request ∷ a) b h = (h.0, requests_front a b h.1)
 
 first_front : (a b : List Item) → AreFirst (a ++ b) → AreFirst a
 unfolding AreFirst
@@ -65,14 +64,12 @@ message_last m body p fits = (body, [], p, fits, sym (append-nil (frame body)), 
 pub ends_last : (items : List Item) (item : Item) → (EndsInClose (items ++ item ∷ []) → stage_after item ≡ Closed) × (stage_after item ≡ Closed → EndsInClose (items ++ item ∷ []))
 unfolding EndsInClose
 ends_last [] (Asks asked) = (λ h. absurd h, λ e. absurd (cc))
-ends_last [] (Requests xid (Exists asked)) = (λ h. absurd h, λ e. absurd (cc))
-ends_last [] (Requests xid Ping) = (λ h. absurd h, λ e. absurd (cc))
 ends_last [] (Requests xid Close) = (λ h. refl, λ e. tt)
+ends_last [] (Requests xid request) = (λ h. absurd h, λ e. absurd (cc))
 ends_last (Asks asked ∷ items) item = ends_last items item
-ends_last (Requests xid (Exists asked) ∷ items) item = ends_last items item
-ends_last (Requests xid Ping ∷ items) item = ends_last items item
 ends_last (Requests xid Close ∷ []) item = ends_last [] item
 ends_last (Requests xid Close ∷ other ∷ items) item = ends_last (other ∷ items) item
+ends_last (Requests xid request ∷ items) item = ends_last items item
 
 -- A run so far: what was taken of `front`, of which `left` is left; `back` stands after it
 

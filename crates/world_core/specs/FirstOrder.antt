@@ -3,23 +3,24 @@ use Rattle.std.specs.Prelude.{ℤ, pos, List, [], ◌∷◌, Some}
 use Rattle.zk_records.specs.declared.stat.Stat.{Stat}
 use Rattle.world_core.specs.declared.entry.Entry.{Entry}
 use Rattle.world_core.specs.declared.entry.Entry.TheVariants.{Connect, Take}
-use Rattle.world_core.specs.declared.request.Request.{Request}
-use Rattle.world_core.specs.declared.request.Request.TheVariants.{Exists, Ping, Close}
-use Rattle.world_core.specs.declared.request.Item.{Item}
-use Rattle.world_core.specs.declared.request.Item.TheVariants.{Asks, Requests}
-use Rattle.world_core.specs.declared.message.Outcome.{Outcome}
-use Rattle.world_core.specs.declared.message.Outcome.TheVariants.{Empty, Stat as HasStat}
+use Rattle.zk_messages.specs.declared.request.Request.{Request}
+use Rattle.zk_messages.specs.declared.request.Request.TheVariants.{Exists, Ping, Close}
+use Rattle.zk_messages.specs.declared.request.Item.{Item}
+use Rattle.zk_messages.specs.declared.request.Item.TheVariants.{Asks, Requests}
+use Rattle.zk_messages.specs.declared.reply.Outcome.{Outcome}
+use Rattle.zk_messages.specs.declared.reply.Outcome.TheVariants.{Empty, Stat as HasStat}
 use Rattle.world_core.specs.declared.message.Message.{Message}
 use Rattle.world_core.specs.declared.message.Message.TheVariants.{Connected, Reply as Replied}
 use Rattle.world_core.specs.Order.{clamped}
 use Rattle.world_core.specs.Step.{read_only_of}
 use Rattle.world_core.specs.Headline.{first_password}
 
--- the last zxid after a request
+-- the last zxid after a request; of requests that are not of the first form, of which no run has one, nothing is meant
 abbrev pub zxid_of : Request → ℤ
 zxid_of (Exists watch) = pos 1
 zxid_of Ping = pos 1
 zxid_of Close = pos 2
+zxid_of request = pos 1
 
 abbrev pub root_stat : Stat
 root_stat = record {
@@ -36,10 +37,12 @@ root_stat = record {
   pzxid = pos 0;
 }
 
+-- what a request comes to, likewise
 abbrev pub outcome_of : Request → Outcome
 outcome_of (Exists watch) = HasStat root_stat
 outcome_of Ping = Empty
 outcome_of Close = Empty
+outcome_of request = Empty
 
 abbrev pub entry_of : Item → Entry
 entry_of (Asks asked) = Connect 1 asked (pos 1) (clamped asked.timeout) first_password (pos 1) (pos 0)

@@ -4,10 +4,10 @@ use Rattle.std.specs.Prelude.{◌≡◌, ℕ, ℤ, pos, ◌∷◌, [], ◌++◌,
 use Rattle.jute_core.specs.Frames.{IsRest}
 use Rattle.world_core.specs.declared.entry.Entry.{Entry}
 use Rattle.world_core.specs.declared.entry.Entry.TheVariants.{Connect, Take}
-use Rattle.world_core.specs.declared.request.Item.{Item}
-use Rattle.world_core.specs.declared.request.Item.TheVariants.{Requests}
-use Rattle.world_core.specs.declared.request.Request.TheVariants.{Close}
-use Rattle.world_core.specs.Sent.{Items, Sent}
+use Rattle.zk_messages.specs.declared.request.Item.{Item}
+use Rattle.zk_messages.specs.declared.request.Item.TheVariants.{Requests}
+use Rattle.zk_messages.specs.declared.request.Request.TheVariants.{Close}
+use Rattle.zk_messages.specs.Sent.{Items, Sent}
 use Rattle.world_core.specs.Messages.{Messages}
 use Rattle.world_core.specs.Step.{out}
 use Rattle.world_core.specs.Order.{Legal}

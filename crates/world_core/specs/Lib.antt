@@ -1,5 +1,3 @@
-pub mod Items
-pub mod Sent
 pub mod Messages
 pub mod State
 pub mod Step
@@ -11,6 +9,5 @@ pub mod FirstOrder
 pub mod Headline
 pub mod Stages
 pub mod Prefixes
-pub mod Reading
 pub mod Sending
 pub mod Taking

@@ -1,12 +1,12 @@
 -- Where a connection of the first form stands, and what may come next.
 use Rattle.std.specs.Prelude.{◌≡◌, ℕ, ◌+◌, ◌≤◌, List, [], length, Bool, true, false}
-use Rattle.world_core.specs.declared.request.Request.TheVariants.{Exists, Ping, Close}
-use Rattle.world_core.specs.declared.request.Item.{Item}
-use Rattle.world_core.specs.declared.request.Item.TheVariants.{Asks, Requests}
+use Rattle.zk_messages.specs.declared.request.Request.TheVariants.{Close}
+use Rattle.zk_messages.specs.declared.request.Item.{Item}
+use Rattle.zk_messages.specs.declared.request.Item.TheVariants.{Asks, Requests}
 use Rattle.world_core.specs.declared.form.Stage.{Stage}
 use Rattle.world_core.specs.declared.form.Stage.TheVariants.{Fresh, Open, Closed}
-use Rattle.world_core.specs.Items.{IsItem}
-use Rattle.world_core.specs.Sent.{Items}
+use Rattle.zk_messages.specs.Items.{IsItem}
+use Rattle.zk_messages.specs.Sent.{Items}
 use Rattle.world_core.specs.FirstForm.{IsFirstConnect, IsFirstRequest, AreFirstRequests, AreFirst, frame_limit}
 
 -- the next frame is the connection's first
@@ -25,9 +25,8 @@ MayFollow Closed item = ⊥
 
 abbrev pub stage_after : Item → Stage
 stage_after (Asks asked) = Open
-stage_after (Requests xid (Exists asked)) = Open
-stage_after (Requests xid Ping) = Open
 stage_after (Requests xid Close) = Closed
+stage_after (Requests xid request) = Open
 
 -- a body whose item may come next leads to this stage
 pub record LeadsTo (stage : Stage) (body : List ℕ) (next : Stage) : Type 0 where

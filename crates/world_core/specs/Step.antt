@@ -3,10 +3,10 @@ use Rattle.std.specs.Prelude.{ℕ, ℤ, pos, negsuc, ◌+ℤ◌, List, [], ◌�
 use Rattle.world_core.specs.State.{State, Node, start, find, stat_of, watching_if, of_others, session_of, heard_at, without_session}
 use Rattle.world_core.specs.declared.entry.Entry.{Entry}
 use Rattle.world_core.specs.declared.entry.Entry.TheVariants.{Connect, Take}
-use Rattle.world_core.specs.declared.request.Request.{Request}
-use Rattle.world_core.specs.declared.request.Request.TheVariants.{Exists, Ping, Close}
-use Rattle.world_core.specs.declared.message.Outcome.{Outcome}
-use Rattle.world_core.specs.declared.message.Outcome.TheVariants.{Error, Empty, Stat as HasStat}
+use Rattle.zk_messages.specs.declared.request.Request.{Request}
+use Rattle.zk_messages.specs.declared.request.Request.TheVariants.{Exists, Ping, Close}
+use Rattle.zk_messages.specs.declared.reply.Outcome.{Outcome}
+use Rattle.zk_messages.specs.declared.reply.Outcome.TheVariants.{Error, Empty, Stat as HasStat}
 use Rattle.world_core.specs.declared.message.Message.{Message}
 use Rattle.world_core.specs.declared.message.Message.TheVariants.{Connected, Reply as Replied}
 
@@ -36,22 +36,25 @@ unfoldable pub exists_outcome : State → List ℕ → Option Node → Outcome
 exists_outcome s path None = Error no_node
 exists_outcome s path (Some node) = HasStat (stat_of s.nodes path node)
 
--- the answer to a request of a connection in its session
-unfoldable pub answer : ℕ → ℤ → State → Request → Answer
-answer c session s (Exists asked) = record {
+-- the answer to a request of a connection in its session; so far the other requests have none, and no order that may be
+-- taken has one of them (`IsNext`)
+unfoldable pub answer : ℕ → ℤ → State → Request → Option Answer
+answer c session s (Exists asked) = Some (record {
   state = record s { watches = watching_if asked.watch (record { path = asked.path; connection = c }) s.watches };
   outcome = exists_outcome s asked.path (find s.nodes asked.path);
-}
-answer c session s Ping = record { state = s; outcome = Empty }
+})
+answer c session s Ping = Some (record { state = s; outcome = Empty })
 -- closeSession draws a zxid; the session, its connection and its watches go
-answer c session s Close = record {
+answer c session s Close = Some (record {
   state = record s { sessions = without_session session s.sessions; watches = of_others c s.watches; last = next_zxid s };
   outcome = Empty;
-}
+})
+answer c session s request = None
 
 -- a reply carries the last zxid after its step
-abbrev pub replied : ℕ → ℤ → Answer → Next
-replied c xid a = record {
+abbrev pub replied : ℕ → ℤ → State → Option Answer → Next
+replied c xid s None = record { state = s; outputs = [] }
+replied c xid s (Some a) = record {
   state = a.state;
   outputs = record { connection = c; message = Replied (record { xid = xid; zxid = a.state.last; outcome = a.outcome }) } ∷ [];
 }
@@ -59,7 +62,9 @@ replied c xid a = record {
 -- a request sets the time at which its session was last heard
 unfoldable pub taken : ℕ → ℤ → Request → ℤ → State → Option ℤ → Next
 taken c xid request now s None = record { state = s; outputs = [] }
-taken c xid request now s (Some session) = replied c xid (answer c session (record s { sessions = heard_at session now s.sessions }) request)
+taken c xid request now s (Some session) =
+    let heard = record s { sessions = heard_at session now s.sessions } in
+    replied c xid heard (answer c session heard request)
 
 -- the server is not read-only, which an answer says where its request has the field
 abbrev pub read_only_of : Option Bool → Option Bool

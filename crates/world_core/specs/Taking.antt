@@ -4,8 +4,8 @@ use Rattle.jute_core.specs.Frames.{frame}
 use Rattle.world_core.specs.declared.runs.World.{World}
 use Rattle.world_core.specs.declared.runs.FirstRun.{FirstRun}
 use Rattle.world_core.specs.declared.form.Stage.TheVariants.{Closed}
-use Rattle.world_core.specs.declared.request.Item.{Item}
-use Rattle.world_core.specs.Items.{IsItem}
+use Rattle.zk_messages.specs.declared.request.Item.{Item}
+use Rattle.zk_messages.specs.Items.{IsItem}
 use Rattle.world_core.specs.FirstForm.{frame_limit}
 use Rattle.world_core.specs.FirstOrder.{entry_of, message_of}
 use Rattle.world_core.specs.Sending.{AddsFrame}

@@ -1,19 +1,20 @@
 -- What is handed to the store in place of what the client sent. In requests of the first form nothing is sealed: the root
 -- has no name, and no request has a payload.
 use Rattle.std.specs.Prelude.{◌≡◌, ℕ, List, [], ◌∷◌, codes, true}
-use Rattle.world_core.specs.declared.request.Request.{Request}
-use Rattle.world_core.specs.declared.request.Request.TheVariants.{Exists, Ping, Close}
-use Rattle.world_core.specs.declared.request.Item.{Item}
-use Rattle.world_core.specs.declared.request.Item.TheVariants.{Asks, Requests}
+use Rattle.zk_messages.specs.declared.request.Request.{Request}
+use Rattle.zk_messages.specs.declared.request.Request.TheVariants.{Exists, Ping, Close}
+use Rattle.zk_messages.specs.declared.request.Item.{Item}
+use Rattle.zk_messages.specs.declared.request.Item.TheVariants.{Asks, Requests}
 use Rattle.world_core.specs.declared.entry.Entry.{Entry}
 use Rattle.world_core.specs.declared.entry.Entry.TheVariants.{Connect, Take}
-use Rattle.world_core.specs.Sent.{Items}
+use Rattle.zk_messages.specs.Sent.{Items}
 
--- the sealed form of a request
+-- the sealed form of a request; so far the others have none
 abbrev pub Veil : Request → Request → Type 0
 Veil (Exists asked) request = (asked.path ≡ codes "/") × (request ≡ Exists asked)
 Veil Ping request = request ≡ Ping
 Veil Close request = request ≡ Close
+Veil plain request = ⊥
 
 -- a connect request goes on as it was sent, and a request keeps its xid
 abbrev pub VeilsItem : Item → Item → Type 0

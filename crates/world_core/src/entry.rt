@@ -3,8 +3,8 @@
 ghost use Rattle.std.specs.Prelude.{◌≡◌, length, slice_get};
 ghost use Rattle.std.specs.Option.{option_copied};
 
-use crate::request::Request;
 use std::marker::Model;
+use zk_messages::Request;
 use zk_records::ConnectRequest;
 
 /// What a store took, with the last zxid after it and the time in milliseconds at which it was taken.

@@ -1,34 +1,24 @@
 //! The form of what a client sends, frame by frame.
 
-ghost use Rattle.std.specs.Prelude.{◌≡◌, ◌≢◌, ℤ, pos, negsuc, ◌≤◌, false, Err, IfOk, IfSome, IfNone, length, codes, IsTrue, ◌↔◌};
-ghost use Rattle.jute_core.specs.Whole.{ReadsWhole};
+ghost use Rattle.std.specs.Prelude.{◌≡◌, ◌≤◌, false, Err, IfOk, length, codes, IsTrue, ◌↔◌};
 ghost use Rattle.zk_records.specs.Connect.{SpellsConnect};
 ghost use Rattle.zk_records.specs.declared.connect.ConnectRequest.{ConnectRequest};
-ghost use Rattle.world_core.specs.declared.request.Item.{Item};
-ghost use Rattle.world_core.specs.declared.request.Request.{Request};
-ghost use Rattle.world_core.specs.Items.{SpellsRequest, IsItem};
-ghost use Rattle.world_core.specs.Sent.{client_limit};
+ghost use Rattle.zk_messages.specs.declared.request.Item.{Item};
+ghost use Rattle.zk_messages.specs.Items.{IsItem};
+ghost use Rattle.zk_messages.specs.Sent.{client_limit};
 ghost use Rattle.world_core.specs.FirstForm.{IsFirstConnect, IsFirstRequest};
 ghost use Rattle.world_core.specs.Stages.{is_fresh, MayFollow, stage_after};
-ghost use Rattle.world_core.specs.Reading.{BeginsWithHeader, exists_request, exists_fields};
 ghost use Rattle.world_core.specs.declared.form.Stage.TheVariants.{Open};
 
-use crate::request::{Item, Request};
-use jute_core::{Cursor, Memory, NotRead};
+use jute_core::{Memory, NotRead};
 use std::alloc::Global;
-use zk_records::{ConnectRequest, PathWatch, RequestHeader, read_connect};
+use zk_messages::{Item, Request, read_request};
+use zk_records::{ConnectRequest, PathWatch, read_connect};
 
 /// The most frames that a client sends.
 pub const FRAME_LIMIT: u32 = 800_000;
 
-const EXISTS: i32 = 3;
-
-const PING: i32 = 11;
-
-const CLOSE_SESSION: i32 = -11;
-
-const EVENT_XID: i32 = -1;
-
+/// The xid of pings.
 const PING_XID: i32 = -2;
 
 /// Why there is no run.
@@ -69,9 +59,8 @@ pub fn stage_after(item: &Item) -> Stage
     match item {
         Item::Asks(_) => Stage::Open,
         Item::Requests { request, .. } => match request {
-            Request::Exists(_) => Stage::Open,
-            Request::Ping => Stage::Open,
             Request::Close => Stage::Closed,
+            _ => Stage::Open,
         },
     }
 }
@@ -105,62 +94,6 @@ fn read_asked(alloc: Global, body: &[u8]) -> Result<ConnectRequest, NotFirst>
     }
 }
 
-// Whether the xid is neither that of events nor that of pings.
-fn is_plain(header: RequestHeader) -> bool
-    ensures { IsTrue result ↔ ((header.xid ≢ negsuc 0) × (header.xid ≢ negsuc 1)) }
-{
-    header.xid != EVENT_XID && header.xid != PING_XID
-}
-
-fn is_exists(header: RequestHeader) -> bool
-    ensures { IsTrue result ↔ (header.kind ≡ pos 3) }
-{
-    header.kind == EXISTS
-}
-
-fn is_ping(header: RequestHeader) -> bool
-    ensures { IsTrue result ↔ ((header.kind ≡ pos 11) × (header.xid ≡ negsuc 1)) }
-{
-    header.kind == PING && header.xid == PING_XID
-}
-
-fn is_close(header: RequestHeader) -> bool
-    ensures { IsTrue result ↔ (header.kind ≡ negsuc 10) }
-{
-    header.kind == CLOSE_SESSION
-}
-
-// The header in front of a request.
-fn read_header(body: &[u8]) -> Option<RequestHeader>
-    requires { length body.now ≤ client_limit }
-    ensures some { IfSome result (λ header. BeginsWithHeader header.xid header.kind body.now) }
-    ensures none { IfNone result ((xid kind : ℤ) → BeginsWithHeader xid kind body.now → ⊥) }
-{
-    let mut cursor = Cursor::new(body);
-    match RequestHeader::read(&mut cursor) {
-        Ok(header) => Some(header),
-        Err(_) => None,
-    }
-}
-
-// The whole body of an exists request.
-#[derive(Debug, Drop)]
-struct ExistsBody {
-    header: RequestHeader,
-    asked: PathWatch,
-}
-
-fn read_exists(alloc: Global, body: &[u8]) -> Result<ExistsBody, NotRead>
-    requires { length body.now ≤ client_limit }
-    ensures { ReadsWhole body.now exists_request exists_fields result }
-{
-    let mut cursor = Cursor::new(body);
-    let header = RequestHeader::read(&mut cursor)?;
-    let asked = PathWatch::read(alloc, &mut cursor)?;
-    cursor.end()?;
-    Ok(ExistsBody { header, asked })
-}
-
 // Whether an exists request asks for the root and leaves no watch.
 fn asks_root(asked: &PathWatch) -> bool
     ensures { IsTrue result ↔ ((asked.now.path ≡ codes "/") × (asked.now.watch ≡ false)) }
@@ -168,23 +101,29 @@ fn asks_root(asked: &PathWatch) -> bool
     asked.path.as_str() == "/" && !asked.watch
 }
 
-// An exists request of the first form.
-fn exists_of(alloc: Global, header: RequestHeader, body: &[u8]) -> Result<Request, NotFirst>
-    requires short { length body.now ≤ client_limit }
-    requires exists { header.kind ≡ pos 3 }
-    requires begins { BeginsWithHeader header.xid header.kind body.now }
-    ensures ok { IfOk result (λ request. SpellsRequest header.xid request body.now
-        × IsFirstRequest header.xid request) }
-    ensures not_built { result ≡ Err NotFirst.NotBuilt → (request : Request)
-        → SpellsRequest header.xid request body.now → IsFirstRequest header.xid request → ⊥ }
+// Whether a request is of the first form.
+fn is_first_request(xid: i32, request: &Request) -> bool
+    ensures { IsTrue result ↔ IsFirstRequest xid request.now }
 {
-    if !is_plain(header) {
-        return Err(NotFirst::NotBuilt);
+    match request {
+        Request::Exists(asked) => asks_root(asked),
+        Request::Ping => xid == PING_XID,
+        Request::Close => true,
+        _ => false,
     }
-    match read_exists(alloc, body) {
-        Ok(read) => {
-            if asks_root(&read.asked) {
-                Ok(Request::Exists(read.asked))
+}
+
+// A request of the first form.
+fn read_requested(alloc: Global, body: &[u8]) -> Result<Item, NotFirst>
+    requires { length body.now ≤ client_limit }
+    ensures ok { IfOk result (λ item. IsItem false item body.now × MayFollow Open item) }
+    ensures not_built { result ≡ Err NotFirst.NotBuilt → (item : Item)
+        → IsItem false item body.now → MayFollow Open item → ⊥ }
+{
+    match read_request(alloc, body) {
+        Ok((xid, request)) => {
+            if is_first_request(xid, &request) {
+                Ok(Item::Requests { xid, request })
             } else {
                 Err(NotFirst::NotBuilt)
             }
@@ -193,50 +132,6 @@ fn exists_of(alloc: Global, header: RequestHeader, body: &[u8]) -> Result<Reques
             NotRead::Refused(_) => Err(NotFirst::NotBuilt),
             NotRead::Memory => Err(NotFirst::Memory),
         },
-    }
-}
-
-// A request of the first form that is a header alone.
-fn bare_of(header: RequestHeader, body: &[u8]) -> Option<Request>
-    requires begins { BeginsWithHeader header.xid header.kind body.now }
-    requires other { header.kind ≢ pos 3 }
-    ensures some { IfSome result (λ request. SpellsRequest header.xid request body.now
-        × IsFirstRequest header.xid request) }
-    ensures none { IfNone result ((request : Request)
-        → SpellsRequest header.xid request body.now → IsFirstRequest header.xid request → ⊥) }
-{
-    if body.len() != 8 {
-        return None;
-    }
-    if is_ping(header) {
-        return Some(Request::Ping);
-    }
-    if is_close(header) && is_plain(header) {
-        return Some(Request::Close);
-    }
-    None
-}
-
-// A request of the first form.
-fn read_request(alloc: Global, body: &[u8]) -> Result<Item, NotFirst>
-    requires { length body.now ≤ client_limit }
-    ensures ok { IfOk result (λ item. IsItem false item body.now × MayFollow Open item) }
-    ensures not_built { result ≡ Err NotFirst.NotBuilt → (item : Item)
-        → IsItem false item body.now → MayFollow Open item → ⊥ }
-{
-    let Some(header) = read_header(body) else {
-        return Err(NotFirst::NotBuilt);
-    };
-    let xid = header.xid;
-    if is_exists(header) {
-        return match exists_of(alloc, header, body) {
-            Ok(request) => Ok(Item::Requests { xid, request }),
-            Err(fault) => Err(fault),
-        };
-    }
-    match bare_of(header, body) {
-        Some(request) => Ok(Item::Requests { xid, request }),
-        None => Err(NotFirst::NotBuilt),
     }
 }
 
@@ -256,7 +151,7 @@ pub fn read_item(alloc: Global, stage: Stage, body: &[u8]) -> Result<Item, NotFi
             Ok(asked) => Ok(Item::Asks(asked)),
             Err(fault) => Err(fault),
         },
-        Stage::Open => read_request(alloc, body),
+        Stage::Open => read_requested(alloc, body),
         Stage::Closed => Err(NotFirst::NotBuilt),
     }
 }

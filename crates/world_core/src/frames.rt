@@ -2,7 +2,7 @@
 
 ghost use Rattle.std.specs.Prelude.{◌≡◌, ◌≤◌, ◌++◌, length, IfSome, IfNone};
 ghost use Rattle.jute_core.specs.Frames.{frame};
-ghost use Rattle.world_core.specs.Sent.{client_limit, HasNoFrame};
+ghost use Rattle.zk_messages.specs.Sent.{client_limit, HasNoFrame};
 ghost use Rattle.world_core.specs.Prefixes.{IsLength};
 
 /// The most bytes of a client's frame.

@@ -1,10 +1,10 @@
 //! The run of one connection over a store.
 
 ghost use Rattle.std.specs.Prelude.{◌≡◌, ◌<◌, ◌≤◌, [], Err, IfOk, OnOk, length, IsTrue, ◌↔◌};
-ghost use Rattle.world_core.specs.declared.request.Item.{Item};
+ghost use Rattle.zk_messages.specs.declared.request.Item.{Item};
 ghost use Rattle.world_core.specs.declared.form.Stage.TheVariants.{Closed};
-ghost use Rattle.world_core.specs.Items.{IsItem};
-ghost use Rattle.world_core.specs.Sent.{client_limit};
+ghost use Rattle.zk_messages.specs.Items.{IsItem};
+ghost use Rattle.zk_messages.specs.Sent.{client_limit};
 ghost use Rattle.world_core.specs.Order.{clamped};
 ghost use Rattle.world_core.specs.Sending.{AddsFrame};
 ghost use Rattle.world_core.specs.FirstForm.{IsFirstForm, frame_limit};
@@ -16,10 +16,10 @@ ghost use Rattle.world_core.specs.Headline.{first_password, Headline};
 use crate::entry::{Entries, Entry};
 use crate::form::{FRAME_LIMIT, NotFirst, Stage, read_item, stage_after};
 use crate::frames::first_frame;
-use crate::message::{Message, Outcome, Reply};
-use crate::request::{Item, Request};
+use crate::message::Message;
 use jute_core::{Bytes, Memory, put_buffer};
 use std::alloc::Global;
+use zk_messages::{Item, Outcome, Reply, Request};
 use zk_records::{ConnectResponse, Stat};
 
 /// The least and the greatest timeout that is answered, in milliseconds.
@@ -60,7 +60,7 @@ fn clamped(asked: i32) -> i32
     asked.min(GREATEST_TIMEOUT).max(LEAST_TIMEOUT)
 }
 
-// The last zxid after a request.
+// The last zxid after a request, where it is of the first form; no other one is taken.
 fn zxid_of(request: &Request) -> i64
     ensures { result ≡ zxid_of request.now }
 {
@@ -68,6 +68,7 @@ fn zxid_of(request: &Request) -> i64
         Request::Exists(_) => 1,
         Request::Ping => 1,
         Request::Close => 2,
+        _ => 1,
     }
 }
 
@@ -90,6 +91,7 @@ fn root_stat() -> Stat
     }
 }
 
+// What a request comes to, where it is of the first form.
 fn outcome_of(request: &Request) -> Outcome
     ensures { result ≡ outcome_of request.now }
 {
@@ -97,6 +99,7 @@ fn outcome_of(request: &Request) -> Outcome
         Request::Exists(_) => Outcome::Stat(root_stat()),
         Request::Ping => Outcome::Empty,
         Request::Close => Outcome::Empty,
+        _ => Outcome::Empty,
     }
 }
 

@@ -135,8 +135,12 @@ fn other_forms_are_not_built(rt: HostRuntime) -> Result<(), Fail> {
         [CONNECT, "0000000effffffff00000003000000012f00"].as_slice(),
         [CONNECT, "0000000efffffffe00000003000000012f00"].as_slice(),
         [CONNECT, "00000008000000010000000b"].as_slice(),
-        // another request, a second connect, a request first, one after the close
-        [CONNECT, "0000000900000001000000090000"].as_slice(),
+        // sync, getChildren, an unknown type, a body that is no request
+        [CONNECT, "0000000d0000000100000009000000012f"].as_slice(),
+        [CONNECT, "0000000e0000000100000008000000012f00"].as_slice(),
+        [CONNECT, "000000080000000100000063"].as_slice(),
+        [CONNECT, "00000009000000010000000900"].as_slice(),
+        // a second connect, a request first, one after the close
         [CONNECT, CONNECT].as_slice(),
         [EXISTS].as_slice(),
         [CONNECT, CLOSE, PING].as_slice(),
