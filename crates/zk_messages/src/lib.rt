@@ -22,3 +22,6 @@ pub use kind::{Kind, OpKind};
 pub use laws::{one_event, one_reply, one_request};
 pub use reply::{Event, OpResult, Outcome, Reply, Results, Shape};
 pub use request::{Item, Op, Ops, Request};
+
+#[cfg(test)]
+mod tests;
