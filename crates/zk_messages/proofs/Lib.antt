@@ -8,6 +8,7 @@ pub mod OnePlace
 pub mod OneReply
 pub mod OneRequest
 pub mod OneWriting
+pub mod ReadIsShort
 pub mod Reaching
 pub mod RecordsBack
 pub mod FirstRules

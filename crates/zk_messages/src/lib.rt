@@ -24,3 +24,6 @@ pub use laws::{one_event, one_reply, one_request};
 pub use refusals::{one_outcome, refusal_of};
 pub use reply::{Event, OpResult, Outcome, Reply, Results, Shape};
 pub use request::{Item, Op, Ops, Request};
+
+#[cfg(test)]
+mod tests;
