@@ -14,3 +14,4 @@ pub mod RecordsBack
 pub mod FirstRules
 pub mod Replies
 pub mod Requests
+pub mod ShortPaths

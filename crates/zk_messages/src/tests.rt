@@ -1,8 +1,9 @@
 //! Frames of real clients, and messages worked by hand, read and written back; where messages are
-//! refused; and one multi that is long.
+//! refused; which requests are; and one multi that is long.
 
 mod back;
 mod frames;
+mod judged;
 mod refusals;
 mod replies;
 mod requests;

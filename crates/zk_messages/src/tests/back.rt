@@ -3,8 +3,8 @@
 ghost use Rattle.std.specs.Prelude.{◌<◌, ◌^◌, length};
 
 use crate::{
-    Event, Reply, Request, Shape, read_event, read_reply, read_request, write_event, write_reply,
-    write_request,
+    Event, Reply, Request, Shape, read_event, read_reply, read_request, refusal_of, write_event,
+    write_reply, write_request,
 };
 use jute_core::NotRead;
 use std::alloc::Global;
@@ -41,4 +41,12 @@ pub(super) fn event_back(alloc: Global, body: &[u8]) -> Result<(Event, Vec<u8>),
     let mut into = Vec::new(alloc);
     write_event(&event, &mut into)?;
     Ok((event, into))
+}
+
+#[tactic(auto, using(crate::proofs::ReadIsShort::read_is_short, crate::proofs::ShortPaths::short_paths))]
+pub(super) fn refusal_back(alloc: Global, body: &[u8]) -> Result<Option<i32>, NotRead>
+    requires { length body.now < 2 ^ 32 }
+{
+    let (_, request) = read_request(alloc, body)?;
+    Ok(refusal_of(&request))
 }
