@@ -1,5 +1,5 @@
-//! Frames of real clients, and messages worked by hand, read and written back; where messages are
-//! refused; and one multi that is long.
+//! Frames of real clients, and messages worked by hand, read and written back; and where messages
+//! are refused.
 
 mod back;
 mod frames;
