@@ -1,5 +1,5 @@
 //! Frames of real clients, and messages worked by hand, read and written back; where messages are
-//! refused; which requests are; and one multi that is long.
+//! refused, and which requests are.
 
 mod back;
 mod frames;

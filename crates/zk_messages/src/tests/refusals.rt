@@ -166,7 +166,7 @@ fn refuses_a_reply_at_its_first_bad_field(rt: HostRuntime) {
 // Each field of an event's header is judged before the next one is read.
 #[test]
 fn refuses_an_event_at_its_first_bad_field(rt: HostRuntime) {
-    let table: [(&[u8], u32, Reason); 7] = [
+    let table: [(&[u8], u32, Reason); 8] = [
         (b"\xff\xff\xff", 0, Reason::Short),
         (b"\0\0\0\x01", 0, Reason::BadHeader),
         (b"\xff\xff\xff\xff\0\0\0\0\0\0\0", 4, Reason::Short),
@@ -185,6 +185,11 @@ fn refuses_an_event_at_its_first_bad_field(rt: HostRuntime) {
             b"\xff\xff\xff\xff\xff\xff\xff\xff\xff\xff\xff\xff\0\0\0\0\0\0\0\x01\0\0\0\x03\0\0\0\x01/\0",
             29,
             Reason::Trailing,
+        ),
+        (
+            b"\xff\xff\xff\xff\xff\xff\xff\xff\xff\xff\xff\xff\0\0\0\0\0\0\0\x01\0\0\0\x03\0\0\0\x02/\xff",
+            28,
+            Reason::BadUtf8,
         ),
     ];
     for (body, place, reason) in table {
