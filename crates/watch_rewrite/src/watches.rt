@@ -37,11 +37,7 @@ fn veil_texts(alloc: Global, keys: &NameKeys, texts: &[Text]) -> Result<Vec<Text
 }
 
 // A list of texts that may be null, sealed.
-fn veil_list(
-    alloc: Global,
-    keys: &NameKeys,
-    list: &Option<Texts>,
-) -> Result<Option<Texts>, Memory>
+fn veil_list(alloc: Global, keys: &NameKeys, list: &Option<Texts>) -> Result<Option<Texts>, Memory>
     requires legal { IfSome list.now (All IsPathText) }
     requires short { IfSome list.now (All IsShortText) }
     ensures { IfOk result (SealsList keys.now list.now) }
