@@ -1,6 +1,6 @@
 //! The watches that a client sets again, sealed.
 
-ghost use Rattle.std.specs.Prelude.{◌≡◌, ◌≤◌, ◌^◌, length, All, IfOk, IfSome};
+ghost use Rattle.std.specs.Prelude.{All, IfOk, IfSome};
 ghost use Rattle.zk_path.specs.Paths.{IsPathText};
 ghost use Rattle.watch_rewrite.specs.Watches.{IsShortText, EachText, SealsText, SealsTexts, SealsList, VeilsWatches};
 
