@@ -5,3 +5,5 @@ pub mod ReadingLemmas
 pub mod SaidLemmas
 pub mod RunLemmas
 pub mod PrintedLemmas
+pub mod FrontLemmas
+pub mod ShowLemmas

@@ -9,6 +9,7 @@ mod files;
 mod numbers;
 mod printed;
 mod script;
+mod show;
 mod sinks;
 mod top_call;
 mod words;
