@@ -295,7 +295,7 @@ fn push_next<'a>(
 }
 
 /// The text that is printed of a client's bytes. Linear in them: each frame is read once, where it stands.
-pub fn shown(alloc: Global, bytes: &[u8]) -> Result<String, Memory>
+pub fn show_frames(alloc: Global, bytes: &[u8]) -> Result<String, Memory>
     ensures { IfOk result (λ text. IsShown bytes.now (string_bytes text)) }
 {
     let mut text = String::new(alloc);
