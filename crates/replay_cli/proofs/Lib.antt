@@ -7,3 +7,4 @@ pub mod RunLemmas
 pub mod PrintedLemmas
 pub mod FrontLemmas
 pub mod ShowLemmas
+pub mod OneShow

@@ -307,3 +307,8 @@ pub fn show_frames(alloc: Global, bytes: &[u8]) -> Result<String, Memory>
     }
     Ok(text)
 }
+
+/// Bytes are shown in one way.
+pub fn one_show()
+    ensures { (bytes a b : List ℕ) → IsShown bytes a → IsShown bytes b → a ≡ b }
+{}
