@@ -49,8 +49,8 @@ same_more bytes number left more old new adds same =
           let here : length bytes - length more ≡ length bytes - length left + 4 + f.size = omega (arith, size, within) in
           let moved = subst (λ (p : ℕ). ShowsFrom (number + 1) p more text) here h in
           subst (λ (l : List ℕ). ShowsFrom 0 0 bytes l)
-              (sym (append_assoc old (frame_text number (length bytes - length left) f) text) ∙ ap (λ (l : List ℕ). l ++ text) (sym adds.2))
-              (same.on _ (shows_more number (length bytes - length left) f more left text adds.1 moved));
+          (sym (append_assoc old (frame_text number (length bytes - length left) f) text) ∙ ap (λ (l : List ℕ). l ++ text) (sym adds.2))
+          (same.on _ (shows_more number (length bytes - length left) f more left text adds.1 moved));
     }
 
 pub same_end : (bytes : List ℕ) (number : ℕ) (left old new : List ℕ) → AddsLine number (length bytes - length left) left old new None → SameShow bytes number left old → ShowsFrom 0 0 bytes new

@@ -194,12 +194,7 @@ fn reason_name(reason: Reason) -> &'static str
 }
 
 // Appends what a line says of a request.
-fn push_request(
-    alloc: Global,
-    into: &mut String,
-    xid: i32,
-    request: &Request,
-) -> Result<(), Memory>
+fn push_request(alloc: Global, into: &mut String, xid: i32, request: &Request) -> Result<(), Memory>
     ensures { OnOk result (string_bytes into.new ≡ string_bytes into.old
         ++ item_text (Requests xid request.now)) }
 {
