@@ -6,8 +6,8 @@ use Rattle.replay_cli.specs.declared.top_call.Stop.{Stop}
 use Rattle.replay_cli.specs.declared.top_call.Stop.TheVariants.{BadWords, Unread, TooLong, NotBuilt, Memory}
 use Rattle.replay_cli.specs.Script.{IsScript, lines}
 use Rattle.replay_cli.specs.Told.{Told}
-use Rattle.replay_cli.specs.Words.{Words, word, IsReplay, Fits, IsFileOf}
-use Rattle.replay_cli.specs.Run.{IsTooLong, IsBuilt, IsBuiltScript, CannotBuild, HasLong, IsNotBuilt}
+use Rattle.replay_cli.specs.Words.{Words, word, IsReplay, IsShow, Fits, IsFileOf}
+use Rattle.replay_cli.specs.Run.{MayHold, IsTooLong, Prints, IsBuilt, IsBuiltScript, CannotBuild, HasLong, IsNotBuilt}
 use Rattle.replay_cli.specs.Stops.{Because}
 use Rattle.replay_cli.proofs.ReadingLemmas.{one_script}
 
@@ -45,3 +45,16 @@ pub replay_stops : {T : Type 0} (r : Result T Stop) (words : Words) (key script 
     → IfErr r (λ stop. Because stop (Fits words → ⊥) (λ name. IsFileOf words name × R) (HasLong words told) (IsNotBuilt words told))
 replay_stops (Ok x) words key script told R is k s h = tt
 replay_stops (Err stop) words key script told R is k s h = replay_stop stop words key script told R is k s h
+
+-- what a show prints, a file may hold
+pub show_held : (words : Words) (told : List ℕ → Told) (text : List ℕ) → IsShow words → Prints words told text → ((bytes : List ℕ) → MayHold (told (word words 1)) bytes → ⊥) → ⊥
+show_held words told text is prints never = elim prints [ inl other ↦ omega (arith, is.0, other.0.0) | inr here ↦ never here.1.bytes here.1.held ]
+
+-- a show is built
+pub show_built : (words : Words) (told : List ℕ → Told) → IsShow words → IsNotBuilt words told → ⊥
+show_built words told is unbuilt = elim unbuilt [
+  | inl other ↦ elim other [ inl hostile ↦ omega (arith, is.0, hostile.0) | inr stress ↦ omega (arith, is.0, stress.0.0) ]
+  | inr replay ↦ omega (arith, is.0, replay.0.0)
+]
+
+pub ruleset shows = (show_held, show_built)

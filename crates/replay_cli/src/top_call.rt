@@ -4,7 +4,7 @@ ghost use Rattle.std.specs.Prelude.{◌≡◌, ◌≢◌, ℕ, ◌≤◌, ◌<�
 ghost use Rattle.replay_cli.specs.Printed.{line, world_text};
 ghost use Rattle.jute_core.specs.Faults.{Rose, Wrote, WroteFront};
 ghost use Rattle.replay_cli.specs.Told.{Told, Agrees};
-ghost use Rattle.replay_cli.specs.Words.{Fits, ReadsFiles, IsUnbuilt, IsFileOf};
+ghost use Rattle.replay_cli.specs.Words.{word, Fits, ReadsFiles, IsShow, IsUnbuilt, IsFileOf};
 ghost use Rattle.replay_cli.specs.declared.script.Event.{Event};
 ghost use Rattle.replay_cli.specs.Script.{IsScript};
 ghost use Rattle.replay_cli.specs.Run.{shown, MayHold, IsTooLong, IsBuilt, IsBuiltScript, CannotBuild, PrintsEvents, IsReplayText, IsShownText, Prints, HasLong, IsNotBuilt};
@@ -315,6 +315,7 @@ fn complain<E: Sink>(alloc: Global, stop: Stop<'_>, err: &mut E) -> Status
 ///
 /// The words are those of a command line without the program's name. Files have at most 268,435,456 bytes and are read
 /// whole. Each status but `Done` has its line on `err`; only `Done` and `WriteFault` write to `out`.
+#[tactic(auto, using(crate::proofs::RunLemmas::shows))]
 pub fn run<F: Files, K: Sink, E: Sink>(
     alloc: Global,
     words: &[String],
@@ -333,6 +334,11 @@ pub fn run<F: Files, K: Sink, E: Sink>(
     ensures too_long { result ≡ Status.InputTooLong → (name : List ℕ)
         × HasLong words.now (F.told files.old) name
         × Wrote (E.taken err.old) (E.taken err.new) (too_long_line name) }
+    // A show of a file that is longer ends so, but for faults and want of memory.
+    ensures long { IsShow words.now
+        → ((bytes : List ℕ) → MayHold (F.told files.old (word words.now 1)) bytes → ⊥)
+        → (result ≡ Status.InputTooLong) ⊎ (result ≡ Status.ReadFault)
+        ⊎ (result ≡ Status.WriteFault) ⊎ (result ≡ Status.Memory) }
     // Another command, or a replay whose files are not of the form that is built.
     ensures not_built { result ≡ Status.NotBuilt → IsNotBuilt words.now (F.told files.old) }
     ensures unbuilt { IsUnbuilt words.now → (result ≡ Status.NotBuilt)
