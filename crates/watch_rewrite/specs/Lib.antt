@@ -1,0 +1,3 @@
+pub mod Watches
+pub mod Events
+pub mod Laws
