@@ -1,0 +1,5 @@
+pub mod Stable
+pub mod Naming
+pub mod Allowed
+pub mod Ivs
+pub mod Sealing

@@ -1,0 +1,5 @@
+pub mod Names
+pub mod Ivs
+pub mod Veil
+pub mod Asks
+pub mod Short

@@ -1,0 +1,15 @@
+//! Requests on their way to a store that is not trusted: every name and payload sealed, and all else as it was.
+//!
+//! `specs/Veil.antt` says what the store is handed in place of a request, under exactly which IVs; `specs/Asks.antt` what
+//! is kept of the request for its reply; `specs/Ivs.antt` which IVs it takes. The crate stands on `zk_messages` for
+//! requests and for which of them are refused, on `path_seal`, `payload_seal` and `watch_rewrite` for sealing, and on
+//! `request_queue` for what waits for a reply.
+//!
+//! Read [`veil_request`] first, then `veil_create` in `records.rt`, then `veil_ops` in `ops.rt`.
+#![tactic(auto)]
+
+mod names;
+mod ops;
+mod records;
+mod requests;
+
