@@ -1,5 +1,5 @@
 -- The IVs of a request, one after another.
-use Rattle.std.proofs.Common.{◌≡◌, ◌≤◌, ◌<◌, ◌+◌, ℕ, suc, List, [], ◌∷◌, ◌++◌, length, take, take_all, get_or, refl, sym, ap, ◌∙◌, subst, arith, append_assoc, add-one, add-zero}
+use Rattle.std.proofs.Common.{◌≡◌, ◌≤◌, ◌<◌, ◌+◌, ◌^◌, ℕ, suc, List, [], ◌∷◌, ◌++◌, length, take, take_all, get_or, refl, sym, ap, ◌∙◌, subst, arith, append_assoc, add-one, add-zero}
 use Rattle.std.specs.Prelude.{sum_by}
 use Rattle.std.specs.List.{AllZip}
 use Rattle.std.proofs.lemmas.List.{append-nil, take_more}
@@ -37,6 +37,9 @@ few_payloads (op ∷ list) =
     let split = sum_by-cons payloads_of_op op list in
     let size : length (op ∷ list) ≡ suc (length list) = refl in
     omega (arith, split, size, few op, few_payloads list)
+
+pub payloads_fit : (list : List Op) → length list < 2 ^ 63 → sum_by payloads_of_op list < 2 ^ 64
+payloads_fit list h = omega (arith, h, few_payloads list)
 
 -- the IVs of the operations so far, and of the next one
 more_ivs : (s : Ivs) (used : ℕ) (op : Op) → ivs_from s (used + payloads_of_op op) ≡ ivs_from s used ++ ivs_of_op s used op

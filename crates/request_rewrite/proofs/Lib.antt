@@ -3,3 +3,4 @@ pub mod Naming
 pub mod Allowed
 pub mod Ivs
 pub mod Sealing
+pub mod Whole

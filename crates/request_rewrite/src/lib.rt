@@ -13,3 +13,6 @@ mod ops;
 mod records;
 mod requests;
 
+mod veiling;
+
+pub use veiling::{NotVeiled, veil_request};
