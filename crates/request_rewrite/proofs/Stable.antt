@@ -103,6 +103,7 @@ dec_sequential flags = either (dec_of _ (signed_Decides flags (pos 2))) (dec_of 
     neither : (flags ≡ pos 2 → ⊥) → (flags ≡ pos 3 → ⊥) → IsSequential flags → ⊥
     neither f g (inl e) = f e
     neither f g (inr e) = g e
+
     either : Dec (flags ≡ pos 2) → Dec (flags ≡ pos 3) → Dec (IsSequential flags)
     either (yes e) other = yes (inl e)
     either (no f) (yes e) = yes (inr e)

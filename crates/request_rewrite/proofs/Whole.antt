@@ -74,12 +74,12 @@ watches_of q r is h = watches_legal r (subst (λ (p : Request). Refuses p None) 
 pub no_iv_turned : (k : EntryKeys) (s : Ivs) (q p v : Request) (asked : Asked) → q ≡ p → payloads_of p ≡ 0 → Turns k [] p v asked → Turns k (ivs_from s (payloads_of q)) q v asked
 no_iv_turned k s q p v asked is none h =
     subst (λ (r : Request). Turns k (ivs_from s (payloads_of r)) r v asked) (sym is)
-        (subst (λ (ivs : List (List ℕ)). Turns k ivs p v asked) (sym (ap (ivs_from s) none ∙ no_iv s)) h)
+    (subst (λ (ivs : List (List ℕ)). Turns k ivs p v asked) (sym (ap (ivs_from s) none ∙ no_iv s)) h)
 
 pub one_iv_turned : {E : Type 0} (k : EntryKeys) (s : Ivs) (q p : Request) (iv : List ℕ) (result : Result Veiled E) → q ≡ p → ivs_from s (payloads_of p) ≡ iv_after s 0 ∷ [] → iv ≡ iv_after s 0 → IfOk result (λ x. Turns k (iv ∷ []) p x.request x.asked) → IfOk result (λ x. Turns k (ivs_from s (payloads_of q)) q x.request x.asked)
 one_iv_turned {E} k s q p iv result is one at h =
     subst (λ (r : Request). IfOk result (λ x. Turns k (ivs_from s (payloads_of r)) r x.request x.asked)) (sym is)
-        (subst (λ (ivs : List (List ℕ)). IfOk result (λ x. Turns k ivs p x.request x.asked)) (ap (λ (i : List ℕ). i ∷ []) at ∙ sym one) h)
+    (subst (λ (ivs : List (List ℕ)). IfOk result (λ x. Turns k ivs p x.request x.asked)) (ap (λ (i : List ℕ). i ∷ []) at ∙ sym one) h)
 
 pub create_iv : (s : Ivs) (r : CreateRequest) → ivs_from s (payloads_of (requests.Create r)) ≡ iv_after s 0 ∷ []
 unfolding ivs_from payloads_of
@@ -106,6 +106,10 @@ none_of_refused r code n h (inr p) = absurd (none-some code (one_outcome r None 
 pub all_of_allowed : (r : Request) (n : ℕ) → Refuses r None → PayloadsOf r n → n ≡ payloads_of r
 all_of_allowed r n h (inl p) = absurd (none-some p.0 (one_outcome r None (Some p.0) h p.1))
 all_of_allowed r n h (inr p) = p.1
+
+pub some_count : (r : Request) (outcome : Option ℤ) → Refuses r outcome → (n : ℕ) × PayloadsOf r n
+some_count r None h = (payloads_of r, inr (h, refl))
+some_count r (Some code) h = (0, inl (code, h, refl))
 
 pub one_count : (r : Request) (m n : ℕ) → PayloadsOf r m → PayloadsOf r n → n ≡ m
 one_count r m n (inl p) q = none_of_refused r p.0 n p.1 q ∙ sym p.2
@@ -240,7 +244,7 @@ plain_left r count left m h e same enough n p = omega (arith, e, same, enough, a
 pub plain_spent : (r : Request) (count left m : ℕ) → Refuses r None → left + count ≡ 2 ^ 32 → m ≡ payloads_of r → left < m → (n : ℕ) → PayloadsOf r n → 2 ^ 32 < count + n
 plain_spent r count left m h e same less n p = omega (arith, e, same, less, all_of_allowed r n h p)
 
-pub ruleset forms = (request_judged, refused_count, refused_veil, refused_asks, refused_left, plain_count, plain_veil, plain_asks, plain_left, plain_spent)
+pub ruleset forms = (request_judged, some_count, refused_count, refused_veil, refused_asks, refused_left, plain_count, plain_veil, plain_asks, plain_left, plain_spent)
 
 -- ---- with the one number of payloads
 

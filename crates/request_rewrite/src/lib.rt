@@ -12,7 +12,9 @@ mod names;
 mod ops;
 mod records;
 mod requests;
-
 mod veiling;
 
 pub use veiling::{NotVeiled, veil_request};
+
+#[cfg(test)]
+mod tests;

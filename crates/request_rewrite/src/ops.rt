@@ -40,10 +40,7 @@ pub(crate) fn payloads_of_op(op: &Op) -> u64
 }
 
 // An operation before which so many IVs are used.
-#[tactic(auto,
-    using(crate::proofs::Allowed::allowed, crate::proofs::Ivs::content_op),
-    unfolding(crate::specs::Asks::AsksOp, crate::specs::Ivs::ivs_of_op, crate::specs::Ivs::payloads_of_op,
-        crate::specs::Short::HasShortOpParts, crate::specs::Veil::VeilsOp))]
+#[tactic(auto, using(crate::proofs::Allowed::allowed, crate::proofs::Ivs::content_op), unfolding(crate::specs::Asks::AsksOp, crate::specs::Ivs::ivs_of_op, crate::specs::Ivs::payloads_of_op, crate::specs::Short::HasShortOpParts, crate::specs::Veil::VeilsOp))]
 fn veil_op(
     alloc: Global,
     keys: &EntryKeys,

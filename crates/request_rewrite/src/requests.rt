@@ -35,9 +35,7 @@ pub(crate) struct Veiled {
     pub(crate) asked: Asked,
 }
 
-#[tactic(auto,
-    using(crate::proofs::Allowed::allowed),
-    unfolding(crate::specs::Veil::Veils, crate::specs::Asks::AsksPlain))]
+#[tactic(auto, using(crate::proofs::Allowed::allowed), unfolding(crate::specs::Veil::Veils, crate::specs::Asks::AsksPlain))]
 pub(crate) fn veil_create(
     alloc: Global,
     keys: &EntryKeys,
@@ -59,9 +57,7 @@ pub(crate) fn veil_create(
     })
 }
 
-#[tactic(auto,
-    using(crate::proofs::Allowed::allowed),
-    unfolding(crate::specs::Veil::Veils, crate::specs::Asks::AsksPlain))]
+#[tactic(auto, using(crate::proofs::Allowed::allowed), unfolding(crate::specs::Veil::Veils, crate::specs::Asks::AsksPlain))]
 pub(crate) fn veil_set_content(
     alloc: Global,
     keys: &EntryKeys,
@@ -80,9 +76,7 @@ pub(crate) fn veil_set_content(
     })
 }
 
-#[tactic(auto,
-    using(crate::proofs::Allowed::allowed),
-    unfolding(crate::specs::Veil::Veils, crate::specs::Asks::AsksPlain))]
+#[tactic(auto, using(crate::proofs::Allowed::allowed), unfolding(crate::specs::Veil::Veils, crate::specs::Asks::AsksPlain))]
 pub(crate) fn veil_delete(
     alloc: Global,
     keys: &EntryKeys,
@@ -99,9 +93,7 @@ pub(crate) fn veil_delete(
     })
 }
 
-#[tactic(auto,
-    using(crate::proofs::Allowed::allowed),
-    unfolding(crate::specs::Veil::Veils, crate::specs::Asks::AsksPlain))]
+#[tactic(auto, using(crate::proofs::Allowed::allowed), unfolding(crate::specs::Veil::Veils, crate::specs::Asks::AsksPlain))]
 pub(crate) fn veil_exists(
     alloc: Global,
     keys: &EntryKeys,
@@ -118,9 +110,7 @@ pub(crate) fn veil_exists(
     })
 }
 
-#[tactic(auto,
-    using(crate::proofs::Allowed::allowed),
-    unfolding(crate::specs::Veil::Veils, crate::specs::Asks::AsksPlain))]
+#[tactic(auto, using(crate::proofs::Allowed::allowed), unfolding(crate::specs::Veil::Veils, crate::specs::Asks::AsksPlain))]
 pub(crate) fn veil_get_content(
     alloc: Global,
     keys: &EntryKeys,
@@ -137,9 +127,7 @@ pub(crate) fn veil_get_content(
     })
 }
 
-#[tactic(auto,
-    using(crate::proofs::Allowed::allowed),
-    unfolding(crate::specs::Veil::Veils, crate::specs::Asks::AsksPlain))]
+#[tactic(auto, using(crate::proofs::Allowed::allowed), unfolding(crate::specs::Veil::Veils, crate::specs::Asks::AsksPlain))]
 pub(crate) fn veil_get_children(
     alloc: Global,
     keys: &EntryKeys,
@@ -156,9 +144,7 @@ pub(crate) fn veil_get_children(
     })
 }
 
-#[tactic(auto,
-    using(crate::proofs::Allowed::allowed),
-    unfolding(crate::specs::Veil::Veils, crate::specs::Asks::AsksPlain))]
+#[tactic(auto, using(crate::proofs::Allowed::allowed), unfolding(crate::specs::Veil::Veils, crate::specs::Asks::AsksPlain))]
 pub(crate) fn veil_get_children2(
     alloc: Global,
     keys: &EntryKeys,
@@ -175,9 +161,7 @@ pub(crate) fn veil_get_children2(
     })
 }
 
-#[tactic(auto,
-    using(crate::proofs::Allowed::allowed),
-    unfolding(crate::specs::Veil::Veils, crate::specs::Asks::AsksPlain))]
+#[tactic(auto, using(crate::proofs::Allowed::allowed), unfolding(crate::specs::Veil::Veils, crate::specs::Asks::AsksPlain))]
 pub(crate) fn veil_get_acl(
     alloc: Global,
     keys: &EntryKeys,
@@ -194,9 +178,7 @@ pub(crate) fn veil_get_acl(
     })
 }
 
-#[tactic(auto,
-    using(crate::proofs::Allowed::allowed),
-    unfolding(crate::specs::Veil::Veils, crate::specs::Asks::AsksPlain))]
+#[tactic(auto, using(crate::proofs::Allowed::allowed), unfolding(crate::specs::Veil::Veils, crate::specs::Asks::AsksPlain))]
 pub(crate) fn veil_sync(
     alloc: Global,
     keys: &EntryKeys,
@@ -213,9 +195,7 @@ pub(crate) fn veil_sync(
     })
 }
 
-#[tactic(auto,
-    using(crate::proofs::Allowed::allowed),
-    unfolding(crate::specs::Veil::Veils, crate::specs::Asks::AsksPlain))]
+#[tactic(auto, using(crate::proofs::Allowed::allowed), unfolding(crate::specs::Veil::Veils, crate::specs::Asks::AsksPlain))]
 pub(crate) fn veil_set_acl(
     alloc: Global,
     keys: &EntryKeys,
@@ -232,9 +212,7 @@ pub(crate) fn veil_set_acl(
     })
 }
 
-#[tactic(auto,
-    using(crate::proofs::Allowed::allowed),
-    unfolding(crate::specs::Veil::Veils, crate::specs::Asks::AsksPlain))]
+#[tactic(auto, using(crate::proofs::Allowed::allowed), unfolding(crate::specs::Veil::Veils, crate::specs::Asks::AsksPlain))]
 pub(crate) fn veil_watches(
     alloc: Global,
     keys: &EntryKeys,
@@ -251,9 +229,7 @@ pub(crate) fn veil_watches(
     })
 }
 
-#[tactic(auto,
-    using(crate::proofs::Allowed::allowed),
-    unfolding(crate::specs::Veil::Veils, crate::specs::Asks::AsksPlain))]
+#[tactic(auto, using(crate::proofs::Allowed::allowed), unfolding(crate::specs::Veil::Veils, crate::specs::Asks::AsksPlain))]
 pub(crate) fn veil_multi(
     alloc: Global,
     keys: &EntryKeys,
@@ -272,9 +248,7 @@ pub(crate) fn veil_multi(
     })
 }
 
-#[tactic(auto,
-    using(crate::proofs::Allowed::allowed),
-    unfolding(crate::specs::Veil::Veils, crate::specs::Asks::AsksPlain))]
+#[tactic(auto, using(crate::proofs::Allowed::allowed), unfolding(crate::specs::Veil::Veils, crate::specs::Asks::AsksPlain))]
 pub(crate) fn veil_ping() -> Veiled
     ensures { (k : EntryKeys) → Turns k [] requests.Ping result.request result.asked }
 {
@@ -284,9 +258,7 @@ pub(crate) fn veil_ping() -> Veiled
     }
 }
 
-#[tactic(auto,
-    using(crate::proofs::Allowed::allowed),
-    unfolding(crate::specs::Veil::Veils, crate::specs::Asks::AsksPlain))]
+#[tactic(auto, using(crate::proofs::Allowed::allowed), unfolding(crate::specs::Veil::Veils, crate::specs::Asks::AsksPlain))]
 pub(crate) fn veil_close() -> Veiled
     ensures { (k : EntryKeys) → Turns k [] requests.Close result.request result.asked }
 {

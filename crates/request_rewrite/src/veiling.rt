@@ -75,10 +75,7 @@ fn stand_in(alloc: Global) -> Result<Request, Memory>
 }
 
 // A request that is not refused.
-#[tactic(auto,
-    using(crate::proofs::Allowed::allowed),
-    unfolding(crate::specs::Ivs::ivs_from, crate::specs::Ivs::payloads_of,
-        crate::specs::Short::HasShortParts, zk_messages::specs::Refuses::Refuses))]
+#[tactic(auto, using(crate::proofs::Allowed::allowed), unfolding(crate::specs::Ivs::ivs_from, crate::specs::Ivs::payloads_of, crate::specs::Short::HasShortParts, zk_messages::specs::Refuses::Refuses))]
 fn veil_allowed(
     alloc: Global,
     keys: &EntryKeys,
@@ -127,6 +124,7 @@ fn form_of(
     request: &Request,
 ) -> Result<Form, NotVeiled>
     requires { HasShortParts request.now }
+    ensures number { (n : ℕ) × PayloadsOf request.now n }
     ensures counted { IfOk result (λ x. PayloadsOf request.now x.payloads) }
     ensures left { IfOk result (λ x. ivs.now.count + x.payloads ≤ 2 ^ 32) }
     ensures veiled { IfOk result (λ x. Veil keys.now (ivs_from ivs.now x.payloads) request.now x.request) }
@@ -177,7 +175,7 @@ pub fn veil_request(
     // What the store is handed, and which IVs that took.
     ensures veiled { (n : ℕ) → PayloadsOf request.now n → IfOk result (λ x. Veil keys.now (ivs_from ivs.old n) request.now x.0) }
     ensures taken { (n : ℕ) → PayloadsOf request.now n → OnOk result (ivs.new ≡ record ivs.old { count = ivs.old.count + n }) }
-    ensures counted { IfOk result (λ x. (n : ℕ) × PayloadsOf request.now n) }
+    ensures counted { (n : ℕ) × PayloadsOf request.now n }
 
     // What waits for the reply.
     ensures xid { IfOk result (λ x. x.1.xid ≡ xid) }
