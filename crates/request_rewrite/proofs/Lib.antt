@@ -4,3 +4,5 @@ pub mod Allowed
 pub mod Ivs
 pub mod Sealing
 pub mod Whole
+pub mod Once
+pub mod Sizes

@@ -3,3 +3,4 @@ pub mod Ivs
 pub mod Veil
 pub mod Asks
 pub mod Short
+pub mod Laws

@@ -5,8 +5,11 @@
 //! requests and for which of them are refused, on `path_seal`, `payload_seal` and `watch_rewrite` for sealing, and on
 //! `request_queue` for what waits for a reply.
 //!
-//! Read [`veil_request`] first, then `veil_create` in `records.rt`, then `veil_ops` in `ops.rt`.
+//! Read [`veil_request`] first, then `veil_create` in `records.rt`, then `veil_ops` in `ops.rt`, then the laws at the end of
+//! this file.
 #![tactic(auto)]
+
+ghost use Rattle.request_rewrite.specs.Laws.{IsVeiledOnce, GrowsByThirty};
 
 mod names;
 mod ops;
@@ -15,6 +18,17 @@ mod requests;
 mod veiling;
 
 pub use veiling::{NotVeiled, veil_request};
+
+/// The law that a request has one number of payloads to seal, and under keys and IVs one veiled form.
+pub fn veiled_once()
+    ensures { IsVeiledOnce }
+{}
+
+/// The law that a body is handed up in at most 30 times its bytes. The most comes of a path with many names of one byte:
+/// two bytes of it become 59.
+pub fn grows_by_thirty()
+    ensures { GrowsByThirty }
+{}
 
 #[cfg(test)]
 mod tests;
