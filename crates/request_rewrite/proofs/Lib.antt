@@ -6,3 +6,4 @@ pub mod Sealing
 pub mod Whole
 pub mod Once
 pub mod Sizes
+pub mod WhenRead

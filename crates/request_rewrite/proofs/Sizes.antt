@@ -42,7 +42,7 @@ use Rattle.request_rewrite.specs.Veil.{VeilsCreate, VeilsSetContent, VeilsDelete
 
 -- ---- how many bytes spell a value
 
-abbrev size : (t : Jute) → Value t → ℕ
+abbrev pub size : (t : Jute) → Value t → ℕ
 size int z = 4
 size long z = 8
 size boolean b = 1
@@ -100,12 +100,12 @@ joined_growth : (k : Keys) (p : List (List ℕ)) → IsPath p → length (joined
 unfolding joined sealed
 joined_growth k [] h = omega arith
 joined_growth k (n ∷ p) h = omega (
-    arith,
-    slash_size (joined (sealed k p)) (SealName k p n),
-    slash_size (joined p) n,
-    length-SealName k p n,
-    filled n (All-head IsComponent n p h).filled,
-    joined_growth k p (All-tail IsComponent n p h),
+  arith,
+  slash_size (joined (sealed k p)) (SealName k p n),
+  slash_size (joined p) n,
+  length-SealName k p n,
+  filled n (All-head IsComponent n p h).filled,
+  joined_growth k p (All-tail IsComponent n p h),
 )
 
 text_growth : (k : Keys) (p : List (List ℕ)) → IsPath p → length (SealPath k p) ≤ 30 * length (text_of p)
@@ -120,11 +120,11 @@ stem_growth : (k : Keys) (s : List (List ℕ)) → IsStem s → length (SealStem
 unfolding joined sealed
 stem_growth k [] h = absurd h
 stem_growth k (n ∷ p) h = omega (
-    arith,
-    slash_size (joined (sealed k p)) (SealName k p n),
-    slash_size (joined p) n,
-    length-SealName k p n,
-    joined_growth k p h.1,
+  arith,
+  slash_size (joined (sealed k p)) (SealName k p n),
+  slash_size (joined p) n,
+  length-SealName k p n,
+  joined_growth k p h.1,
 )
 
 path_grown : (k : Keys) (plain veiled : List ℕ) → SealsText k plain veiled → length veiled ≤ 30 * length plain
@@ -143,15 +143,15 @@ sealed_size key iv p sequential d size_of =
     let plain : List ℕ = flag_of sequential d ∷ (sha256 (text_of p) ++ content_of d) in
     let one_more : length plain ≡ suc (length (sha256 (text_of p) ++ content_of d)) = refl in
     omega (
-        arith,
-        size_of,
-        one_more,
-        length-append iv (Gcm key iv [] plain),
-        length-append (text_under key iv plain) (gcm_tag key iv [] (text_under key iv plain)),
-        length-text_under key iv plain,
-        length-gcm_tag key iv [] (text_under key iv plain),
-        length-append (sha256 (text_of p)) (content_of d),
-        length-sha256 (text_of p),
+      arith,
+      size_of,
+      one_more,
+      length-append iv (Gcm key iv [] plain),
+      length-append (text_under key iv plain) (gcm_tag key iv [] (text_under key iv plain)),
+      length-text_under key iv plain,
+      length-gcm_tag key iv [] (text_under key iv plain),
+      length-append (sha256 (text_of p)) (content_of d),
+      length-sha256 (text_of p),
     )
 
 content_size : (d : Option (List ℕ)) → size buffer d ≡ length (content_of d) + 4
@@ -171,18 +171,18 @@ payload_grown key iv p sequential d veiled twelve e = omega (arith, ap (size buf
 
 create_grown : (k : EntryKeys) (ivs : List (List ℕ)) (r v : CreateRequest) → AreIvs12 ivs → VeilsCreate k ivs r v → size create_request (create_fields v) ≤ 30 * size create_request (create_fields r)
 create_grown k ivs r v all x = omega (
-    arith,
-    ap length x.sealed_path,
-    name_grown k.names r.flags r.path x.sequential x.path x.named,
-    payload_grown k.payloads x.iv x.path x.sequential r.content v.content (the_iv ivs x.iv all x.one_iv) x.sealed_content,
-    ap (λ (list : Option (List Acl)). size acls (acls_fields list)) x.same_acls,
+  arith,
+  ap length x.sealed_path,
+  name_grown k.names r.flags r.path x.sequential x.path x.named,
+  payload_grown k.payloads x.iv x.path x.sequential r.content v.content (the_iv ivs x.iv all x.one_iv) x.sealed_content,
+  ap (λ (list : Option (List Acl)). size acls (acls_fields list)) x.same_acls,
 )
 
 content_grown : (k : EntryKeys) (ivs : List (List ℕ)) (r v : SetContentRequest) → AreIvs12 ivs → VeilsSetContent k ivs r v → size set_content_request (set_content_fields v) ≤ 30 * size set_content_request (set_content_fields r)
 content_grown k ivs r v all x = omega (
-    arith,
-    path_grown k.names r.path v.path x.text,
-    payload_grown k.payloads x.iv x.text.path false r.content v.content (the_iv ivs x.iv all x.one_iv) x.sealed_content,
+  arith,
+  path_grown k.names r.path v.path x.text,
+  payload_grown k.payloads x.iv x.text.path false r.content v.content (the_iv ivs x.iv all x.one_iv) x.sealed_content,
 )
 
 delete_grown : (k : Keys) (r v : DeleteRequest) → VeilsDelete k r v → size delete_request (delete_fields v) ≤ 30 * size delete_request (delete_fields r)
@@ -199,9 +199,9 @@ only_grown k r v x = omega (arith, path_grown k r.path v.path x.text)
 
 acl_grown : (k : Keys) (r v : SetAclRequest) → VeilsSetAcl k r v → size set_acl_request (set_acl_fields v) ≤ 30 * size set_acl_request (set_acl_fields r)
 acl_grown k r v x = omega (
-    arith,
-    path_grown k r.path v.path x.text,
-    ap (λ (list : Option (List Acl)). size acls (acls_fields list)) x.same_acls,
+  arith,
+  path_grown k r.path v.path x.text,
+  ap (λ (list : Option (List Acl)). size acls (acls_fields list)) x.same_acls,
 )
 
 texts_grown : (k : Keys) (plain veiled : List (List ℕ)) → AllZip (SealsText k) plain veiled → sum_by (size ustring) veiled ≤ 30 * sum_by (size ustring) plain
@@ -209,11 +209,11 @@ texts_grown k [] [] h = omega arith
 texts_grown k [] (v ∷ vs) h = absurd h
 texts_grown k (p ∷ ps) [] h = absurd h
 texts_grown k (p ∷ ps) (v ∷ vs) h = omega (
-    arith,
-    path_grown k p v h.0,
-    texts_grown k ps vs h.1,
-    sum_by-cons (size ustring) p ps,
-    sum_by-cons (size ustring) v vs,
+  arith,
+  path_grown k p v h.0,
+  texts_grown k ps vs h.1,
+  sum_by-cons (size ustring) p ps,
+  sum_by-cons (size ustring) v vs,
 )
 
 list_grown : (k : Keys) (plain veiled : Option (List (List ℕ))) → SealsList k plain veiled → size (vector ustring) veiled ≤ 30 * size (vector ustring) plain
@@ -224,15 +224,15 @@ list_grown k (Some p) (Some v) h = omega (arith, texts_grown k p v h)
 
 watches_grown : (k : Keys) (r v : SetWatches) → VeilsWatches k r v → size set_watches (set_watches_fields v) ≤ 30 * size set_watches (set_watches_fields r)
 watches_grown k r v x = omega (
-    arith,
-    list_grown k r.content_paths v.content_paths x.content,
-    list_grown k r.exist_paths v.exist_paths x.exist,
-    list_grown k r.child_paths v.child_paths x.child,
+  arith,
+  list_grown k r.content_paths v.content_paths x.content,
+  list_grown k r.exist_paths v.exist_paths x.exist,
+  list_grown k r.child_paths v.child_paths x.child,
 )
 
 -- ---- operations, each behind its header of 9 bytes
 
-abbrev op_size : Op → ℕ
+abbrev pub op_size : Op → ℕ
 op_size op = 9 + size (op_record (op_kind_of op)) (op_fields op)
 
 op_spelled_size : (op : Op) (b : List ℕ) → SpellsOp op b → length b ≡ op_size op
@@ -241,11 +241,11 @@ op_spelled_size op b h = spelled_size (pair (pair int (pair boolean int)) (op_re
 
 ops_spelled_size : (list : List Op) (b : List ℕ) → SpellsOps list b → length b ≡ sum_by op_size list + 9
 ops_spelled_size list b h = omega (
-    arith,
-    ap length h.cut,
-    length-append h.items h.last,
-    each_size SpellsOp op_size op_spelled_size list h.items h.each,
-    spelled_size (pair int (pair boolean int)) _ h.last h.ended,
+  arith,
+  ap length h.cut,
+  length-append h.items h.last,
+  each_size SpellsOp op_size op_spelled_size list h.items h.each,
+  spelled_size (pair int (pair boolean int)) _ h.last h.ended,
 )
 
 op_grown : (k : EntryKeys) (ivs : List (List ℕ)) (r v : Op) → AreIvs12 ivs → VeilsOp k ivs r v → op_size v ≤ 30 * op_size r
@@ -275,16 +275,16 @@ ops_grown k ivs (r ∷ rs) [] all x = absurd x
 ops_grown k ivs (r ∷ rs) (v ∷ vs) all x =
     let both : AreIvs12 (x.0 ++ x.1) = subst AreIvs12 x.4 all in
     omega (
-        arith,
-        op_grown k x.0 r v (front_12 x.0 x.1 both) x.2,
-        ops_grown k x.1 rs vs (back_12 x.0 x.1 both) x.3,
-        sum_by-cons op_size r rs,
-        sum_by-cons op_size v vs,
+      arith,
+      op_grown k x.0 r v (front_12 x.0 x.1 both) x.2,
+      ops_grown k x.1 rs vs (back_12 x.0 x.1 both) x.3,
+      sum_by-cons op_size r rs,
+      sum_by-cons op_size v vs,
     )
 
 -- ---- requests, each behind its header of 8 bytes
 
-abbrev request_size : Request → ℕ
+abbrev pub request_size : Request → ℕ
 request_size (requests.Create r) = size create_request (create_fields r)
 request_size (requests.Delete r) = size delete_request (delete_fields r)
 request_size (requests.Exists r) = size path_watch (path_watch_fields r)
@@ -321,13 +321,13 @@ rest_size (requests.Auth body) b h = ap length h
 rest_size requests.Close b h = ap length h
 rest_size (requests.Unknown kind body) b h = ap length h
 
-body_size : (xid : ℤ) (r : Request) (b : List ℕ) → SpellsRequest xid r b → length b ≡ request_size r + 8
+pub body_size : (xid : ℤ) (r : Request) (b : List ℕ) → SpellsRequest xid r b → length b ≡ request_size r + 8
 body_size xid r b h = omega (
-    arith,
-    ap length h.cut,
-    length-append h.header h.rest,
-    spelled_size request_header (xid, number_of r) h.header h.head,
-    rest_size r h.rest h.tail,
+  arith,
+  ap length h.cut,
+  length-append h.header h.rest,
+  spelled_size request_header (xid, number_of r) h.header h.head,
+  rest_size r h.rest h.tail,
 )
 
 form_grown : (k : EntryKeys) (ivs : List (List ℕ)) (r v : Request) → AreIvs12 ivs → Veils k ivs r v → request_size v ≤ 30 * request_size r
