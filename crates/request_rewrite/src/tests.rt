@@ -82,40 +82,41 @@ fn first_form(alloc: Global, body: &str) -> Result<(Request, Pending), Fail> {
     Ok(veil_request(alloc, &keys, &mut ivs, 7, 56, &request)?)
 }
 
-// It has 176 bytes: 47, and 63 and 66 that are sealed.
+fn is_create(veiled: &Request, sealed: &str, payload: &[u8], flags: i32) -> bool {
+    let Request::Create(create) = veiled else {
+        return false;
+    };
+    let Some(content) = &create.content else {
+        return false;
+    };
+    create.path.as_str() == sealed && content.as_slice() == payload && create.flags == flags
+}
+
+fn asks_create(pending: &Pending, plain: &str, stem: bool) -> bool {
+    match &pending.asked {
+        Asked::Create { path, sequential } => path.text() == plain && *sequential == stem,
+        _ => false,
+    }
+}
+
+// The body has 176 bytes: 47, and 63 and 66 that are sealed.
 #[test]
 fn a_create_is_sealed_as_elsewhere(rt: HostRuntime) -> Result<(), Fail> {
+    let payload = hex::decode(rt.alloc(), HELLO)?;
     let (veiled, pending) = first_form(rt.alloc(), CREATE_APP)?;
-    let Request::Create(create) = veiled else {
-        return Err("no create".into());
-    };
-    assert_eq!(rt; create.path.as_str(), SEALED_APP);
-    let payload = create.content.ok_or("no payload")?;
-    assert!(rt; payload.as_slice() == hex::decode(rt.alloc(), HELLO)?.as_slice());
-    assert_eq!(rt;
-        (create.path.len(), payload.len(), create.flags),
-        (63, 66, 0)
-    );
-    assert_eq!(rt; (pending.xid, pending.bytes), (7, 56));
-    assert!(rt;
-        matches!(&pending.asked, Asked::Create { path, sequential: false } if path.text() == "/app")
-    );
+    let is_sealed = is_create(&veiled, SEALED_APP, payload.as_slice(), 0);
+    let is_asked = asks_create(&pending, "/app", false);
+    assert!(rt; is_sealed && is_asked && pending.xid == 7 && pending.bytes == 56);
     Ok(())
 }
 
 #[test]
 fn a_sequential_create_is_sealed_for_its_stem(rt: HostRuntime) -> Result<(), Fail> {
+    let payload = hex::decode(rt.alloc(), ONE)?;
     let (veiled, pending) = first_form(rt.alloc(), CREATE_STEM)?;
-    let Request::Create(create) = veiled else {
-        return Err("no create".into());
-    };
-    assert_eq!(rt; create.path.as_str(), SEALED_STEM);
-    let payload = create.content.ok_or("no payload")?;
-    assert!(rt; payload.as_slice() == hex::decode(rt.alloc(), ONE)?.as_slice());
-    assert_eq!(rt; create.flags, 3);
-    assert!(rt;
-        matches!(&pending.asked, Asked::Create { path, sequential: true } if path.text() == "/q/n-")
-    );
+    let is_sealed = is_create(&veiled, SEALED_STEM, payload.as_slice(), 3);
+    let is_asked = asks_create(&pending, "/q/n-", true);
+    assert!(rt; is_sealed && is_asked);
     Ok(())
 }
 
