@@ -5,3 +5,6 @@ pub mod ReadingLemmas
 pub mod SaidLemmas
 pub mod RunLemmas
 pub mod PrintedLemmas
+pub mod FrontLemmas
+pub mod ShowLemmas
+pub mod OneShow

@@ -7,5 +7,7 @@ pub mod Commands
 pub mod Printed
 pub mod Script
 pub mod Reading
+pub mod Show
+pub mod Showing
 pub mod Run
 pub mod Stops

@@ -1,6 +1,8 @@
--- What a replay prints, and when it is not built.
+-- What the commands print, and when they print nothing.
 use Rattle.std.specs.Prelude.{◌≡◌, ℕ, ◌<◌, ◌≤◌, ◌⊎◌, List, length, replicate, codes, Bool, if◌then◌else◌}
 use Rattle.replay_cli.specs.Told.{Told, untold, missing, holds, Agrees}
+use Rattle.replay_cli.specs.Words.{Words, word, IsReplay, IsShow, IsUnbuilt, IsFileOf}
+use Rattle.replay_cli.specs.Show.{IsShown}
 use Rattle.replay_cli.specs.Printed.{Shown, world_text}
 use Rattle.replay_cli.specs.Script.{IsScript, opened, sent, drained}
 use Rattle.replay_cli.specs.declared.script.Event.{Event}
@@ -11,6 +13,10 @@ use Rattle.world_core.specs.Headline.{Headline}
 -- the most bytes that a file may have
 abbrev pub file_limit : ℕ
 file_limit = 268435456
+
+-- these bytes may be the file's, and are not more
+abbrev pub MayHold : Told → List ℕ → Type 0
+MayHold told bytes = Agrees told bytes × (length bytes ≤ file_limit)
 
 -- the file has more bytes, where it is told
 abbrev pub IsTooLong : Told → Type 0
@@ -53,21 +59,40 @@ pub record PrintsEvents (events : List Event) (text : List ℕ) : Type 0 where
   pub comes : Comes events order connections
   pub text_is : text ≡ world_text order connections
 
--- these bytes may be the file's, and are none of this kind
+-- the file may hold bytes that are none of this kind
 abbrev pub IsOutside : Told → (List ℕ → Type 0) → Type 0
-IsOutside told P = (bytes : List ℕ) × Agrees told bytes × (P bytes → ⊥)
+IsOutside told P = (bytes : List ℕ) × MayHold told bytes × (P bytes → ⊥)
 
 -- a cause of NotBuilt in the files of a replay
 abbrev pub CannotBuild : Told → Told → Type 0
-CannotBuild key script = IsTooLong key ⊎ IsOutside key IsKey ⊎ IsTooLong script ⊎ IsOutside script IsBuiltScript
+CannotBuild key script = IsOutside key IsKey ⊎ IsOutside script IsBuiltScript
 
 -- the text is what a replay of a key and a script in these files prints
 pub record IsReplayText (key script : Told) (text : List ℕ) : Type 0 where
   pub key_bytes : List ℕ
   pub script_bytes : List ℕ
   pub events : List Event
-  pub key_agrees : Agrees key key_bytes
+  pub key_held : MayHold key key_bytes
   pub is_key : IsKey key_bytes
-  pub script_agrees : Agrees script script_bytes
+  pub script_held : MayHold script script_bytes
   pub is_script : IsScript script_bytes events
   pub prints : PrintsEvents events text
+
+-- the text is what is shown of the file
+pub record IsShownText (file : Told) (text : List ℕ) : Type 0 where
+  pub bytes : List ℕ
+  pub held : MayHold file bytes
+  pub shown_is : IsShown bytes text
+
+-- the text is what the command prints, where the files tell this of each name
+abbrev pub Prints : Words → (List ℕ → Told) → List ℕ → Type 0
+Prints words told text = (IsReplay words × IsReplayText (told (word words 1)) (told (word words 2)) text)
+    ⊎ (IsShow words × IsShownText (told (word words 1)) text)
+
+-- a file of the command is too long
+abbrev pub HasLong : Words → (List ℕ → Told) → List ℕ → Type 0
+HasLong words told name = IsFileOf words name × IsTooLong (told name)
+
+-- the command is not built, or what its files are
+abbrev pub IsNotBuilt : Words → (List ℕ → Told) → Type 0
+IsNotBuilt words told = IsUnbuilt words ⊎ (IsReplay words × CannotBuild (told (word words 1)) (told (word words 2)))

@@ -4,7 +4,7 @@ use Rattle.jute_core.specs.Faults.{Wrote}
 use Rattle.replay_cli.specs.declared.top_call.Stop.{Stop}
 use Rattle.replay_cli.specs.declared.top_call.Stop.TheVariants as stops
 use Rattle.replay_cli.specs.declared.top_call.Status.{Status}
-use Rattle.replay_cli.specs.declared.top_call.Status.TheVariants.{Done, BadWords, ReadFault, NotBuilt, WriteFault, Memory}
+use Rattle.replay_cli.specs.declared.top_call.Status.TheVariants.{Done, BadWords, ReadFault, InputTooLong, NotBuilt, WriteFault, Memory}
 use Rattle.replay_cli.specs.Printed.{line}
 use Rattle.replay_cli.specs.Words.{Words, IsFileOf}
 
@@ -14,25 +14,32 @@ exit_status BadWords = 2
 exit_status ReadFault = 3
 exit_status WriteFault = 6
 exit_status Memory = 7
+exit_status InputTooLong = 8
 exit_status NotBuilt = 11
 
--- a cause for each stop but want of memory; a file that was not read is told by its name
-abbrev pub Because : Stop → Type 0 → (List ℕ → Type 0) → Type 0 → Type 0
-Because stops.BadWords bad unread unbuilt = bad
-Because (stops.Unread name) bad unread unbuilt = unread name.now
-Because stops.NotBuilt bad unread unbuilt = unbuilt
-Because stops.Memory bad unread unbuilt = Unit {0}
+-- a cause for each stop but want of memory; a file that was not read, or is too long, is told by its name
+abbrev pub Because : Stop → Type 0 → (List ℕ → Type 0) → (List ℕ → Type 0) → Type 0 → Type 0
+Because stops.BadWords bad unread long unbuilt = bad
+Because (stops.Unread name) bad unread long unbuilt = unread name.now
+Because (stops.TooLong name) bad unread long unbuilt = long name.now
+Because stops.NotBuilt bad unread long unbuilt = unbuilt
+Because stops.Memory bad unread long unbuilt = Unit {0}
 
 abbrev pub status_of : Stop → Status
 status_of stops.BadWords = BadWords
 status_of (stops.Unread name) = ReadFault
+status_of (stops.TooLong name) = InputTooLong
 status_of stops.NotBuilt = NotBuilt
 status_of stops.Memory = Memory
+
+abbrev pub too_long_line : List ℕ → List ℕ
+too_long_line name = line name (codes " is longer than 268435456 bytes")
 
 -- the line of a stop on the standard error
 abbrev pub complaint_of : Stop → List ℕ
 complaint_of stops.BadWords = line (codes "bad words") []
 complaint_of (stops.Unread name) = line (codes "cannot read ") name.now
+complaint_of (stops.TooLong name) = too_long_line name.now
 complaint_of stops.NotBuilt = line (codes "not built") []
 complaint_of stops.Memory = line (codes "no memory") []
 
@@ -41,6 +48,7 @@ abbrev pub Complains : Words → Status → Option (List ℕ) → Option (List �
 Complains words Done before after = after ≡ before
 Complains words BadWords before after = Wrote before after (line (codes "bad words") [])
 Complains words ReadFault before after = (name : List ℕ) × IsFileOf words name × Wrote before after (line (codes "cannot read ") name)
+Complains words InputTooLong before after = (name : List ℕ) × IsFileOf words name × Wrote before after (too_long_line name)
 Complains words NotBuilt before after = Wrote before after (line (codes "not built") [])
 Complains words Memory before after = Wrote before after (line (codes "no memory") [])
 Complains words WriteFault before after = Unit {0}

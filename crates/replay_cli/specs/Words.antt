@@ -35,12 +35,17 @@ IsStress words = IsCalled words 4 (codes "stress")
 
 -- the commands that are not built yet
 abbrev pub IsUnbuilt : Words → Type 0
-IsUnbuilt words = IsHostile words ⊎ IsShow words ⊎ IsStress words
+IsUnbuilt words = IsHostile words ⊎ IsStress words
+
+-- the commands that read files
+abbrev pub ReadsFiles : Words → Type 0
+ReadsFiles words = IsReplay words ⊎ IsShow words
 
 -- a row fits
 abbrev pub Fits : Words → Type 0
-Fits words = IsReplay words ⊎ IsUnbuilt words
+Fits words = ReadsFiles words ⊎ IsUnbuilt words
 
--- the name of a file that a replay reads
+-- the name of a file that they read
 abbrev pub IsFileOf : Words → List ℕ → Type 0
-IsFileOf words name = IsReplay words × ((name ≡ word words 1) ⊎ (name ≡ word words 2))
+IsFileOf words name = (IsReplay words × ((name ≡ word words 1) ⊎ (name ≡ word words 2)))
+    ⊎ (IsShow words × (name ≡ word words 1))

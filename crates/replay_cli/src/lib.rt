@@ -9,12 +9,14 @@ mod files;
 mod numbers;
 mod printed;
 mod script;
+mod show;
 mod sinks;
 mod top_call;
 mod words;
 
 pub use files::{FileFault, Files, MemoryFiles, NamedFile, RealFiles};
 pub use script::{Event, Events, Said, read_script, said_of};
+pub use show::{Ending, Frame, one_show, show_frames};
 pub use sinks::{Failed, MemorySink, Sink, StdSink};
 pub use top_call::{Status, run};
 

@@ -8,8 +8,8 @@ use jute_core::Memory;
 use std::alloc::{AllocError, Global};
 use world_core::Entry;
 
-// Bytes in hex, or a dash where there are none.
-fn bytes_text(alloc: Global, bytes: &[u8]) -> Result<String, AllocError>
+/// Bytes in hex, or a dash where there are none.
+pub fn bytes_text(alloc: Global, bytes: &[u8]) -> Result<String, AllocError>
     ensures { IfOk result (λ text. string_bytes text ≡ bytes_text bytes.now) }
 {
     if bytes.is_empty() {
@@ -55,9 +55,9 @@ pub fn push_connection(
     Ok(())
 }
 
-// Appends a word and a value.
+/// Appends a word and a value.
 #[tactic(auto, unfolding(crate::specs::Printed::field))]
-fn push_field(into: &mut String, word: &str, value: &str) -> Result<(), Memory>
+pub fn push_field(into: &mut String, word: &str, value: &str) -> Result<(), Memory>
     ensures { OnOk result
         (string_bytes into.new ≡ string_bytes into.old ++ field word.now value.now) }
 {
@@ -66,7 +66,8 @@ fn push_field(into: &mut String, word: &str, value: &str) -> Result<(), Memory>
     Ok(())
 }
 
-fn push_number(alloc: Global, into: &mut String, word: &str, value: i64) -> Result<(), Memory>
+/// Appends a word and a number.
+pub fn push_number(alloc: Global, into: &mut String, word: &str, value: i64) -> Result<(), Memory>
     ensures { OnOk result (string_bytes into.new ≡ string_bytes into.old ++ field word.now
         (signed_decimal value)) }
 {

@@ -136,7 +136,6 @@ fn what_is_not_built(rt: HostRuntime) -> Result<(), Fail> {
     let alloc = rt.alloc();
     for (words, key) in [
         (["replay", "key", "script"].as_slice(), 63),
-        (["show", "key"].as_slice(), 64),
         (["hostile", "key", "script"].as_slice(), 64),
         (["stress", "18446744073709551615", "64", "0"].as_slice(), 64),
     ] {
@@ -177,5 +176,202 @@ fn writes_that_fail(rt: HostRuntime) -> Result<(), Fail> {
     assert!(rt; err.status == Status::WriteFault);
     assert_eq!(rt; err.err.taken(), b"cannot write\n".as_slice());
     assert_eq!(rt; err.err.faults(), 1);
+    Ok(())
+}
+
+const CONNECT: &str =
+    "0000002d000000000000000000000000000075300000000000000000000000100000000000000000000000000000000000";
+
+// Frames of requests, and the part of the line behind the frame's length.
+const REQUESTS: [(&str, &str, &str); 17] = [
+    (
+        "0000001a0000000100000001000000022f61ffffffff0000000000000000",
+        "26",
+        "create xid 1 path 2f61",
+    ),
+    (
+        "000000120000000200000002000000022f61ffffffff",
+        "18",
+        "delete xid 2 path 2f61",
+    ),
+    (
+        "0000000f0000000300000003000000022f6101",
+        "15",
+        "exists xid 3 path 2f61",
+    ),
+    (
+        "0000000f0000000400000004000000022f6100",
+        "15",
+        "getData xid 4 path 2f61",
+    ),
+    (
+        "000000160000000500000005000000022f61ffffffff00000000",
+        "22",
+        "setData xid 5 path 2f61",
+    ),
+    (
+        "0000000e0000000600000006000000022f61",
+        "14",
+        "getACL xid 6 path 2f61",
+    ),
+    (
+        "000000160000000700000007000000022f610000000000000000",
+        "22",
+        "setACL xid 7 path 2f61",
+    ),
+    (
+        "0000000f0000000800000008000000022f6100",
+        "15",
+        "getChildren xid 8 path 2f61",
+    ),
+    (
+        "0000000e0000000900000009000000022f61",
+        "14",
+        "sync xid 9 path 2f61",
+    ),
+    (
+        "0000000f0000000a0000000c000000022f6100",
+        "15",
+        "getChildren2 xid 10 path 2f61",
+    ),
+    (
+        "0000000d0000000b000000030000000000",
+        "13",
+        "exists xid 11 path -",
+    ),
+    (
+        "000000240000000c0000000e0000000200ffffffff000000022f61ffffffffffffffff01ffffffff",
+        "36",
+        "multi xid 12 path -",
+    ),
+    ("00000008fffffffe0000000b", "8", "ping xid -2 path -"),
+    ("0000000bfffffffc00000064000000", "11", "auth xid -4 path -"),
+    (
+        "00000022fffffff800000065000000000000000000000001000000022f610000000000000000",
+        "34",
+        "setWatches xid -8 path -",
+    ),
+    (
+        "0000000e0000000d0000000d000000022f61",
+        "14",
+        "unknown xid 13 path -",
+    ),
+    (
+        "0000000880000000fffffff5",
+        "8",
+        "closeSession xid -2147483648 path -",
+    ),
+];
+
+// Bytes behind a connect request, and the last line.
+const ENDS: [(&str, &str); 19] = [
+    ("", "end"),
+    ("00", "rest 1"),
+    ("0000000800000001", "rest 8"),
+    ("000fffff", "rest 4"),
+    ("00100000", "too-long 1048576"),
+    ("72756f6b", "too-long 1920298859"),
+    ("ffffffff00", "too-long -1"),
+    ("0000000000000000", "malformed 0 short"),
+    ("0000000400000001", "malformed 4 short"),
+    ("00000008ffffffff00000003", "malformed 0 bad-xid"),
+    ("00000008fffffffe00000003", "malformed 0 bad-xid"),
+    ("0000000c0000000100000009fffffffe", "malformed 8 bad-length"),
+    ("0000000c0000000100000009ffffffff", "malformed 8 bad-length"),
+    ("0000000d0000000100000009000000022f", "malformed 12 short"),
+    (
+        "0000000d000000010000000900000001ff",
+        "malformed 12 bad-utf8",
+    ),
+    (
+        "0000000f0000000100000003000000022f6102",
+        "malformed 14 bad-bool",
+    ),
+    ("0000000900000001fffffff500", "malformed 8 trailing"),
+    (
+        "00000011000000010000000e0000000300ffffffff",
+        "malformed 8 bad-type",
+    ),
+    (
+        "00000011000000010000000effffffff0100000000",
+        "malformed 13 bad-header",
+    ),
+];
+
+// Runs `show bytes` over bytes given in hex.
+fn shown(alloc: Global, digits: &[&str]) -> Result<Outcome, Fail> {
+    let words = words(alloc, &["show", "bytes"])?;
+    let mut bytes = Vec::new(alloc);
+    for part in digits {
+        bytes.extend_from_slice(hex::decode(alloc, part)?.as_slice())?;
+    }
+    let held = vec![in alloc; file(alloc, "bytes", bytes.as_slice())?]?;
+    let mut files = MemoryFiles::new(held, Vec::new(alloc));
+    let mut out = MemorySink::new(alloc, Vec::new(alloc));
+    let mut err = MemorySink::new(alloc, Vec::new(alloc));
+    let status = run(alloc, words.as_slice(), &mut files, &mut out, &mut err);
+    Ok(Outcome { status, out, err })
+}
+
+// A text of these parts.
+fn joined(alloc: Global, parts: &[&str]) -> Result<String, AllocError> {
+    let mut text = String::new(alloc);
+    for part in parts {
+        text.push_str(part)?;
+    }
+    Ok(text)
+}
+
+#[test]
+fn a_line_for_each_type_of_request(rt: HostRuntime) -> Result<(), Fail> {
+    let alloc = rt.alloc();
+    for (frame, size, said) in REQUESTS {
+        let ran = shown(alloc, &[CONNECT, frame])?;
+        let first = "0 at 0 bytes 45 connect\n1 at 49 bytes ";
+        let printed = joined(alloc, &[first, size, " ", said, "\nend\n"])?;
+        assert!(rt; ran.status == Status::Done);
+        assert_eq!(rt; ran.out.taken(), printed.as_bytes());
+        assert_eq!(rt; ran.err.taken().len(), 0);
+    }
+    Ok(())
+}
+
+#[test]
+fn a_last_line_for_each_end(rt: HostRuntime) -> Result<(), Fail> {
+    let alloc = rt.alloc();
+    for (bytes, said) in ENDS {
+        let ran = shown(alloc, &[CONNECT, bytes])?;
+        let printed = joined(alloc, &["0 at 0 bytes 45 connect\n", said, "\n"])?;
+        assert!(rt; ran.status == Status::Done);
+        assert_eq!(rt; ran.out.taken(), printed.as_bytes());
+    }
+    Ok(())
+}
+
+#[test]
+fn a_first_frame_that_is_no_connect(rt: HostRuntime) -> Result<(), Fail> {
+    let alloc = rt.alloc();
+    let ran = shown(alloc, &["00000008fffffffe0000000b", CONNECT])?;
+    assert_eq!(rt; ran.out.taken(), b"malformed 4 short\n".as_slice());
+    let older = shown(
+        alloc,
+        &["0000001c00000000000000000000000000000000000000000000000000000000"],
+    )?;
+    assert_eq!(rt;
+        older.out.taken(),
+        b"0 at 0 bytes 28 connect\nend\n".as_slice()
+    );
+    let nothing = shown(alloc, &[])?;
+    assert_eq!(rt; nothing.out.taken(), b"end\n".as_slice());
+    Ok(())
+}
+
+#[test]
+fn a_show_that_fails(rt: HostRuntime) -> Result<(), Fail> {
+    let alloc = rt.alloc();
+    let ran = ran(alloc, &["show", "absent"], 64)?;
+    assert!(rt; ran.status == Status::ReadFault);
+    assert_eq!(rt; ran.out.taken().len(), 0);
+    assert_eq!(rt; ran.err.taken(), b"cannot read absent\n".as_slice());
     Ok(())
 }

@@ -4,15 +4,16 @@ ghost use Rattle.std.specs.Prelude.{◌≡◌, ◌≢◌, ℕ, ◌≤◌, ◌<�
 ghost use Rattle.replay_cli.specs.Printed.{line, world_text};
 ghost use Rattle.jute_core.specs.Faults.{Rose, Wrote, WroteFront};
 ghost use Rattle.replay_cli.specs.Told.{Told, Agrees};
-ghost use Rattle.replay_cli.specs.Words.{word, Fits, IsReplay, IsUnbuilt, IsFileOf};
+ghost use Rattle.replay_cli.specs.Words.{word, Fits, ReadsFiles, IsShow, IsUnbuilt, IsFileOf};
 ghost use Rattle.replay_cli.specs.declared.script.Event.{Event};
 ghost use Rattle.replay_cli.specs.Script.{IsScript};
-ghost use Rattle.replay_cli.specs.Run.{shown, IsTooLong, IsBuilt, IsBuiltScript, CannotBuild, PrintsEvents, IsReplayText};
-ghost use Rattle.replay_cli.specs.Stops.{exit_status, Because, status_of, complaint_of, Complains};
+ghost use Rattle.replay_cli.specs.Run.{shown, MayHold, IsTooLong, IsBuilt, IsBuiltScript, CannotBuild, PrintsEvents, IsReplayText, IsShownText, Prints, HasLong, IsNotBuilt};
+ghost use Rattle.replay_cli.specs.Stops.{exit_status, Because, status_of, complaint_of, too_long_line, Complains};
 
 use crate::files::{FileFault, Files};
 use crate::printed::{push_connection, push_line, push_order};
 use crate::script::{Event, read_script, said_of};
+use crate::show::show_frames;
 use crate::sinks::Sink;
 use crate::words::{Command, command_of};
 use jute_core::{Bytes, Memory};
@@ -34,6 +35,8 @@ pub enum Status {
     BadWords,
     /// A file could not be read.
     ReadFault,
+    /// A file has more bytes than are read.
+    InputTooLong,
     /// The command, or the form of its files, is not built yet.
     NotBuilt,
     /// What was to be printed, or the line of another status, could not be written.
@@ -53,6 +56,7 @@ impl Status {
             Status::ReadFault => 3,
             Status::WriteFault => 6,
             Status::Memory => 7,
+            Status::InputTooLong => 8,
             Status::NotBuilt => 11,
         }
     }
@@ -63,22 +67,24 @@ impl Status {
 enum Stop<'a> {
     BadWords,
     Unread(&'a str),
+    TooLong(&'a str),
     NotBuilt,
     Memory,
 }
 
 // The bytes of a file.
 fn load<'a, F: Files>(alloc: Global, name: &'a str, files: &mut F) -> Result<Bytes, Stop<'a>>
-    ensures ok { IfOk result (λ bytes. Agrees (F.told files.old name.now) bytes) }
+    ensures ok { IfOk result (λ bytes. MayHold (F.told files.old name.now) bytes) }
     ensures err { IfErr result (λ stop. Because stop ⊥ (λ n. (n ≡ name.now)
-        × Rose (F.faults files.old) (F.faults files.new)) (IsTooLong (F.told files.old name.now))) }
+        × Rose (F.faults files.old) (F.faults files.new)) (λ n. (n ≡ name.now)
+        × IsTooLong (F.told files.old n)) ⊥) }
     ensures same { (other : List ℕ) → F.told files.new other ≡ F.told files.old other }
     ensures later { F.faults files.old ≤ F.faults files.new }
 {
     match files.read(alloc, name, FILE_LIMIT) {
         Ok(bytes) => Ok(bytes),
         Err(FileFault::Failed) => Err(Stop::Unread(name)),
-        Err(FileFault::TooLong { .. }) => Err(Stop::NotBuilt),
+        Err(FileFault::TooLong { .. }) => Err(Stop::TooLong(name)),
         Err(FileFault::Memory) => Err(Stop::Memory),
     }
 }
@@ -122,7 +128,7 @@ fn printed(alloc: Global, opened: usize, run: &FirstRun) -> Result<String, Memor
 // The text that events print, or why there is none.
 fn text_of_events<'a>(alloc: Global, events: &[Event]) -> Result<String, Stop<'a>>
     ensures ok { IfOk result (λ text. PrintsEvents events.now (string_bytes text)) }
-    ensures err { IfErr result (λ stop. Because stop ⊥ (λ _. ⊥) (IsBuilt events.now → ⊥)) }
+    ensures err { IfErr result (λ stop. Because stop ⊥ (λ _. ⊥) (λ _. ⊥) (IsBuilt events.now → ⊥)) }
 {
     let Ok(said) = said_of(alloc, events) else {
         return Err(Stop::Memory);
@@ -147,7 +153,7 @@ fn text_of_events<'a>(alloc: Global, events: &[Event]) -> Result<String, Stop<'a
 fn text_of<'a>(alloc: Global, script: &[u8]) -> Result<String, Stop<'a>>
     ensures ok { IfOk result (λ text. (events : List Event) × IsScript script.now events
         × PrintsEvents events (string_bytes text)) }
-    ensures err { IfErr result (λ stop. Because stop ⊥ (λ _. ⊥) (IsBuiltScript script.now → ⊥)) }
+    ensures err { IfErr result (λ stop. Because stop ⊥ (λ _. ⊥) (λ _. ⊥) (IsBuiltScript script.now → ⊥)) }
 {
     match read_script(alloc, script) {
         Ok(Some(events)) => text_of_events(alloc, events.as_slice()),
@@ -167,8 +173,9 @@ fn replay<'a, F: Files>(
         (F.told files.old script.now) (string_bytes text)) }
     ensures err { IfErr result (λ stop. Because stop ⊥ (λ name. ((name ≡ key.now)
         ⊎ (name ≡ script.now))
-        × Rose (F.faults files.old) (F.faults files.new)) (CannotBuild (F.told files.old key.now)
-        (F.told files.old script.now))) }
+        × Rose (F.faults files.old) (F.faults files.new)) (λ name. ((name ≡ key.now)
+        ⊎ (name ≡ script.now)) × IsTooLong (F.told files.old name)) (CannotBuild
+        (F.told files.old key.now) (F.told files.old script.now))) }
     ensures later { F.faults files.old ≤ F.faults files.new }
 {
     let key = match load(alloc, key, files) {
@@ -185,25 +192,42 @@ fn replay<'a, F: Files>(
     text_of(alloc, script.as_slice())
 }
 
+// The text that is shown of a file, or why there is none.
+fn show<'a, F: Files>(alloc: Global, name: &'a str, files: &mut F) -> Result<String, Stop<'a>>
+    ensures ok { IfOk result (λ text. IsShownText (F.told files.old name.now) (string_bytes text)) }
+    ensures err { IfErr result (λ stop. Because stop ⊥ (λ file. (file ≡ name.now)
+        × Rose (F.faults files.old) (F.faults files.new)) (λ file. (file ≡ name.now)
+        × IsTooLong (F.told files.old file)) ⊥) }
+    ensures later { F.faults files.old ≤ F.faults files.new }
+{
+    let bytes = match load(alloc, name, files) {
+        Ok(bytes) => bytes,
+        Err(stop) => return Err(stop),
+    };
+    match show_frames(alloc, bytes.as_slice()) {
+        Ok(text) => Ok(text),
+        Err(_) => Err(Stop::Memory),
+    }
+}
+
 // The text that the words' command prints, or why there is none.
 fn outcome<'a, F: Files>(
     alloc: Global,
     words: &'a [String],
     files: &mut F,
 ) -> Result<String, Stop<'a>>
-    ensures ok { IfOk result (λ text. IsReplay words.now
-        × IsReplayText (F.told files.old (word words.now 1)) (F.told files.old (word words.now 2))
-        (string_bytes text)) }
+    ensures ok { IfOk result (λ text. Prints words.now (F.told files.old) (string_bytes text)) }
     ensures err { IfErr result (λ stop. Because stop (Fits words.now
         → ⊥) (λ name. IsFileOf words.now name × Rose (F.faults files.old) (F.faults files.new))
-        (IsUnbuilt words.now ⊎ (IsReplay words.now × CannotBuild (F.told files.old (word words.now 1)) (F.told files.old (word words.now 2))))) }
+        (HasLong words.now (F.told files.old)) (IsNotBuilt words.now (F.told files.old))) }
     ensures later { F.faults files.old ≤ F.faults files.new }
-    ensures unread { (IsReplay words.now → ⊥) → files.new ≡ files.old }
+    ensures unread { (ReadsFiles words.now → ⊥) → files.new ≡ files.old }
 {
     match command_of(words) {
         None => Err(Stop::BadWords),
         Some(Command::Unbuilt) => Err(Stop::NotBuilt),
         Some(Command::Replay { key, script }) => replay(alloc, key, script, files),
+        Some(Command::Show { file }) => show(alloc, file, files),
     }
 }
 
@@ -215,6 +239,7 @@ fn complaint(alloc: Global, stop: Stop<'_>) -> Result<String, Memory>
     match stop {
         Stop::BadWords => push_line(&mut text, "bad words", "")?,
         Stop::Unread(name) => push_line(&mut text, "cannot read ", name)?,
+        Stop::TooLong(name) => push_line(&mut text, name, " is longer than 268435456 bytes")?,
         Stop::NotBuilt => push_line(&mut text, "not built", "")?,
         Stop::Memory => push_line(&mut text, "no memory", "")?,
     }
@@ -227,6 +252,7 @@ fn status_of(stop: Stop<'_>) -> Status
     match stop {
         Stop::BadWords => Status::BadWords,
         Stop::Unread(_) => Status::ReadFault,
+        Stop::TooLong(_) => Status::InputTooLong,
         Stop::NotBuilt => Status::NotBuilt,
         Stop::Memory => Status::Memory,
     }
@@ -289,6 +315,7 @@ fn complain<E: Sink>(alloc: Global, stop: Stop<'_>, err: &mut E) -> Status
 ///
 /// The words are those of a command line without the program's name. Files have at most 268,435,456 bytes and are read
 /// whole. Each status but `Done` has its line on `err`; only `Done` and `WriteFault` write to `out`.
+#[tactic(auto, using(crate::proofs::RunLemmas::shows))]
 pub fn run<F: Files, K: Sink, E: Sink>(
     alloc: Global,
     words: &[String],
@@ -300,34 +327,42 @@ pub fn run<F: Files, K: Sink, E: Sink>(
     ensures bad_words { result ≡ Status.BadWords → Fits words.now → ⊥ }
     ensures no_row { (Fits words.now → ⊥) → (result ≡ Status.BadWords)
         ⊎ (result ≡ Status.WriteFault) ⊎ (result ≡ Status.Memory) }
-    // A file of a replay was not read.
-    ensures read_fault { result ≡ Status.ReadFault → IsReplay words.now
+    // A file was not read.
+    ensures read_fault { result ≡ Status.ReadFault → ReadsFiles words.now
         × Rose (F.faults files.old) (F.faults files.new) }
+    // A file is too long, and is named.
+    ensures too_long { result ≡ Status.InputTooLong → (name : List ℕ)
+        × HasLong words.now (F.told files.old) name
+        × Wrote (E.taken err.old) (E.taken err.new) (too_long_line name) }
+    // A show of a file that is longer ends so, but for faults and want of memory.
+    ensures long { IsShow words.now
+        → ((bytes : List ℕ) → MayHold (F.told files.old (word words.now 1)) bytes → ⊥)
+        → (result ≡ Status.InputTooLong) ⊎ (result ≡ Status.ReadFault)
+        ⊎ (result ≡ Status.WriteFault) ⊎ (result ≡ Status.Memory) }
     // Another command, or a replay whose files are not of the form that is built.
-    ensures not_built { result ≡ Status.NotBuilt → IsUnbuilt words.now ⊎ (IsReplay words.now
-        × CannotBuild (F.told files.old (word words.now 1)) (F.told files.old (word words.now 2))) }
+    ensures not_built { result ≡ Status.NotBuilt → IsNotBuilt words.now (F.told files.old) }
     ensures unbuilt { IsUnbuilt words.now → (result ≡ Status.NotBuilt)
         ⊎ (result ≡ Status.WriteFault) ⊎ (result ≡ Status.Memory) }
-    // Only a replay reads files.
-    ensures unread { (IsReplay words.now → ⊥) → files.new ≡ files.old }
+    // Only a replay and a show read files.
+    ensures unread { (ReadsFiles words.now → ⊥) → files.new ≡ files.old }
     // What is printed.
-    ensures done { result ≡ Status.Done → IsReplay words.now × ((text : List ℕ)
-        × IsReplayText (F.told files.old (word words.now 1)) (F.told files.old
-        (word words.now 2)) text × Wrote (K.taken out.old) (K.taken out.new) text) }
+    ensures done { result ≡ Status.Done → (text : List ℕ)
+        × Prints words.now (F.told files.old) text
+        × Wrote (K.taken out.old) (K.taken out.new) text }
     // A write failed, and `out` took nothing or a front of the text.
     ensures write_fault { result ≡ Status.WriteFault
         → Rose (K.faults out.old) (K.faults out.new) ⊎ Rose (E.faults err.old) (E.faults err.new) }
     ensures front { result ≡ Status.WriteFault → (K.taken out.new ≡ K.taken out.old)
-        ⊎ ((text : List ℕ)
-        × IsReplayText (F.told files.old (word words.now 1)) (F.told files.old
-        (word words.now 2)) text × WroteFront (K.taken out.old) (K.taken out.new) text) }
+        ⊎ ((text : List ℕ) × Prints words.now (F.told files.old) text
+        × WroteFront (K.taken out.old) (K.taken out.new) text) }
     // Each other status leaves `out` as it was, and has its line on `err`.
     ensures quiet { result ≢ Status.Done → result ≢ Status.WriteFault
         → K.taken out.new ≡ K.taken out.old }
     ensures complains { Complains words.now result (E.taken err.old) (E.taken err.new) }
     // Where no cause holds and nothing fails, it is done but for memory.
-    ensures complete { IsReplay words.now
-        → (CannotBuild (F.told files.old (word words.now 1)) (F.told files.old (word words.now 2)) → ⊥)
+    ensures complete { ReadsFiles words.now
+        → (IsNotBuilt words.now (F.told files.old) → ⊥)
+        → ((name : List ℕ) → HasLong words.now (F.told files.old) name → ⊥)
         → (Rose (F.faults files.old) (F.faults files.new) → ⊥)
         → (Rose (K.faults out.old) (K.faults out.new) → ⊥)
         → (Rose (E.faults err.old) (E.faults err.new) → ⊥)

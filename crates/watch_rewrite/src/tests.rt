@@ -14,8 +14,10 @@ use zk_path::check_path;
 use zk_records::SetWatches;
 
 const SEALED_A: &str = "/a8a6003f2e1d1454a606ec55a44e776c7e0ed81bb2329ff66131bb291b";
+
 const SEALED_A_A: &str =
     "/a8a6003f2e1d1454a606ec55a44e776c7e0ed81bb2329ff66131bb291b/7259a8d3ee8f5c4a59fdeebe8e1e6217ee6b45e9b115897101e9bed716";
+
 const SEALED_B: &str = "/a296b980a57b9a9cc271666a3882026e008cfecca5fe7ee43dd4a4f69d";
 
 fn keys() -> NameKeys {
@@ -56,7 +58,11 @@ fn watches_are_sealed_as_elsewhere_and_in_order(rt: HostRuntime) -> Result<(), F
     let content = veiled.content_paths.ok_or("no content paths")?;
     assert_eq!(rt; content.len(), 2);
     assert!(rt; content.get(0).is_some_and(|text| text.as_str() == SEALED_B));
-    assert!(rt; content.get(1).is_some_and(|text| text.as_str() == SEALED_A_A));
+    assert!(rt;
+        content
+            .get(1)
+            .is_some_and(|text| text.as_str() == SEALED_A_A)
+    );
     assert!(rt; veiled.exist_paths.is_none());
     let child = veiled.child_paths.ok_or("no child paths")?;
     assert_eq!(rt; child.len(), 1);

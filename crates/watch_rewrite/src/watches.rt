@@ -1,6 +1,6 @@
 //! The watches that a client sets again, sealed.
 
-ghost use Rattle.std.specs.Prelude.{◌≡◌, ◌≤◌, ◌^◌, length, All, IfOk, IfSome};
+ghost use Rattle.std.specs.Prelude.{All, IfOk, IfSome};
 ghost use Rattle.zk_path.specs.Paths.{IsPathText};
 ghost use Rattle.watch_rewrite.specs.Watches.{IsShortText, EachText, SealsText, SealsTexts, SealsList, VeilsWatches};
 
@@ -37,11 +37,7 @@ fn veil_texts(alloc: Global, keys: &NameKeys, texts: &[Text]) -> Result<Vec<Text
 }
 
 // A list of texts that may be null, sealed.
-fn veil_list(
-    alloc: Global,
-    keys: &NameKeys,
-    list: &Option<Texts>,
-) -> Result<Option<Texts>, Memory>
+fn veil_list(alloc: Global, keys: &NameKeys, list: &Option<Texts>) -> Result<Option<Texts>, Memory>
     requires legal { IfSome list.now (All IsPathText) }
     requires short { IfSome list.now (All IsShortText) }
     ensures { IfOk result (SealsList keys.now list.now) }

@@ -8,8 +8,10 @@ pub mod OnePlace
 pub mod OneReply
 pub mod OneRequest
 pub mod OneWriting
+pub mod ReadIsShort
 pub mod Reaching
 pub mod RecordsBack
 pub mod FirstRules
 pub mod Replies
 pub mod Requests
+pub mod ShortPaths

@@ -4,8 +4,9 @@
 //! Stands on `zk_records` for what follows a header, on `jute_core`, and on `zk_path` for which
 //! paths are legal. `specs/Requests.antt`, `specs/Replies.antt` and `specs/Multi.antt` say which
 //! bytes are a message and where bytes that are none go wrong; `specs/Forms.antt` is the table of
-//! what follows a header, by its type. Read [`read_request`] first, then [`write_request`], then
-//! [`read_reply`] and [`read_event`].
+//! what follows a header, by its type, and `specs/Laws.antt` that a body is one message and a message
+//! has one spelling. Read [`read_request`] first, then [`write_request`], then [`read_reply`] and
+//! [`read_event`], and then the laws: [`one_request`], [`one_reply`] and [`one_event`].
 #![tactic(auto)]
 
 mod answering;
@@ -24,3 +25,6 @@ pub use laws::{one_event, one_reply, one_request};
 pub use refusals::{one_outcome, refusal_of};
 pub use reply::{Event, OpResult, Outcome, Reply, Results, Shape};
 pub use request::{Item, Op, Ops, Request};
+
+#[cfg(test)]
+mod tests;

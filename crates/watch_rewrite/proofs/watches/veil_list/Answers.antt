@@ -1,5 +1,3 @@
-use Rattle.std.proofs.Common.{All, ◌∙◌}
-use Rattle.zk_path.specs.Paths.{IsPathText}
 use Rattle.watch_rewrite.proofs.watches.veil_list.Goals as goal
 
 pub veil_texts-requires-clause-legal : goal.veil_texts-requires-clause-legal
