@@ -98,6 +98,26 @@ impl IvSource {
         Ok(iv)
     }
 
+    /// The IV that the call of [`IvSource::next`] gives after `index` more ones. Takes no memory.
+    ///
+    /// It is looked at and not taken: whoever seals with it has to take it, by [`IvSource::advance`],
+    /// before what was sealed leaves. An IV that is not taken then is given again, and so must not
+    /// have sealed anything that leaves.
+    pub fn ahead(&self, index: u64) -> [u8; 12]
+        requires { self.now.count + index < 2 ^ 32 }
+        ensures { result ≡ payload_iv self.now.boot self.now.connection (self.now.count + index) }
+    {
+        iv_of(self.boot, self.connection, (self.count + index) as u32)
+    }
+
+    /// Takes so many IVs at once, which were looked at by [`IvSource::ahead`]. Takes no memory.
+    pub fn advance(&mut self, count: u64)
+        requires { self.old.count + count ≤ 2 ^ 32 }
+        ensures { self.new ≡ record self.old { count = self.old.count + count } }
+    {
+        self.count += count;
+    }
+
     /// How many IVs are left. Takes no memory.
     pub fn left(&self) -> u64
         ensures { result + self.now.count ≡ 2 ^ 32 }

@@ -1,0 +1,372 @@
+-- How many bytes spell a request, and how many its veiled form.
+use Rattle.std.proofs.Common.{◌≡◌, ◌≢◌, ◌⊎◌, ◌≤◌, ◌+◌, ◌*◌, ℕ, ℤ, suc, Bool, true, false, List, [], ◌∷◌, ◌++◌, length, length-append, Option, Some, None, inl, inr, refl, sym, ap, ◌∙◌, subst, arith}
+use Rattle.std.specs.Prelude.{All, sum_by}
+use Rattle.std.specs.List.{AllZip}
+use Rattle.std.proofs.lemmas.List.Elements.{All-cons, All-head, All-tail}
+use Rattle.std.proofs.lemmas.List.Sums.{sum_by-cons}
+use Rattle.sha2.specs.Sha256.{sha256}
+use Rattle.sha2.proofs.Facts256.{length-sha256}
+use Rattle.gcm_mode.specs.Gcm.{Gcm, text_under, gcm_tag}
+use Rattle.gcm_mode.proofs.Counting.{length-text_under, length-gcm_tag}
+use Rattle.jute_core.specs.Jute.{Jute, Value, Spells, IsSized, Each, int, long, boolean, buffer, ustring, count, pair, vector}
+use Rattle.zk_path.specs.Paths.{IsComponent, IsPath, IsStem, joined, text_of}
+use Rattle.path_seal.specs.Sealed.{Keys, SealName, sealed, SealPath, SealStem}
+use Rattle.path_seal.proofs.NameBytes.{length-SealName}
+use Rattle.payload_seal.specs.Payload.{SealData, plain_payload, flag_of, content_of}
+use Rattle.payload_seal.specs.declared.keys.EntryKeys.{EntryKeys}
+use Rattle.watch_rewrite.specs.Watches.{SealsText, SealsList, VeilsWatches}
+use Rattle.zk_records.specs.Acls.{acls, acls_fields}
+use Rattle.zk_records.specs.Headers.{request_header}
+use Rattle.zk_records.specs.PathWatches.{path_watch, path_watch_fields}
+use Rattle.zk_records.specs.Requests.{create_request, create_fields, delete_request, delete_fields, check_request, check_fields, set_content_request, set_content_fields, path_only, path_only_fields, set_acl_request, set_acl_fields, set_watches, set_watches_fields}
+use Rattle.zk_records.specs.declared.acl.Acl.{Acl}
+use Rattle.zk_records.specs.declared.create.CreateRequest.{CreateRequest}
+use Rattle.zk_records.specs.declared.node.CheckRequest.{CheckRequest}
+use Rattle.zk_records.specs.declared.node.DeleteRequest.{DeleteRequest}
+use Rattle.zk_records.specs.declared.node.PathOnly.{PathOnly}
+use Rattle.zk_records.specs.declared.node.SetContentRequest.{SetContentRequest}
+use Rattle.zk_records.specs.declared.path_watch.PathWatch.{PathWatch}
+use Rattle.zk_records.specs.declared.set_acl.SetAclRequest.{SetAclRequest}
+use Rattle.zk_records.specs.declared.set_watches.SetWatches.{SetWatches}
+use Rattle.zk_messages.specs.Forms.{SpellsForm, form_of_any}
+use Rattle.zk_messages.specs.Kinds.{kind_of, op_kind_of}
+use Rattle.zk_messages.specs.Multi.{SpellsOp, SpellsOps, op_record, op_fields}
+use Rattle.zk_messages.specs.Requests.{SpellsRequest, fields_of, number_of}
+use Rattle.zk_messages.specs.declared.request.Op.{Op}
+use Rattle.zk_messages.specs.declared.request.Op.TheVariants as ops
+use Rattle.zk_messages.specs.declared.request.Request.{Request}
+use Rattle.zk_messages.specs.declared.request.Request.TheVariants as requests
+use Rattle.request_rewrite.specs.Laws.{GrowsByThirty}
+use Rattle.request_rewrite.specs.Names.{IsNameOf, SealNameOf}
+use Rattle.request_rewrite.specs.Veil.{VeilsCreate, VeilsSetContent, VeilsDelete, VeilsCheck, VeilsPathWatch, VeilsPathOnly, VeilsSetAcl, VeilsOp, VeilsOps, Veils, Veil, stand_in}
+
+-- ---- how many bytes spell a value
+
+abbrev pub size : (t : Jute) → Value t → ℕ
+size int z = 4
+size long z = 8
+size boolean b = 1
+size buffer None = 4
+size buffer (Some bytes) = length bytes + 4
+size ustring text = length text + 4
+size count n = 4
+size (pair s t) v = size s v.0 + size t v.1
+size (vector t) None = 4
+size (vector t) (Some vs) = sum_by (size t) vs + 4
+
+sized : (bytes b : List ℕ) → IsSized bytes b → length b ≡ length bytes + 4
+sized bytes b h =
+    let head : length h.0 ≡ 4 = ap length h.1.1 in
+    omega (arith, head, ap length h.2, length-append h.0 bytes)
+
+each_size : {V : Type 0} (R : V → List ℕ → Type 0) (f : V → ℕ) → ((v : V) (b : List ℕ) → R v b → length b ≡ f v) → (vs : List V) (b : List ℕ) → Each R vs b → length b ≡ sum_by f vs
+each_size {V} R f one [] b h = ap length h
+each_size {V} R f one (v ∷ vs) b h =
+    omega (arith, ap length h.4, length-append h.0 h.1, one v h.0 h.2, each_size R f one vs h.1 h.3, sum_by-cons f v vs)
+
+spelled_size : (t : Jute) (v : Value t) (b : List ℕ) → Spells t v b → length b ≡ size t v
+unfolding Spells
+spelled_size int z b h = ap length h.1
+spelled_size long z b h = ap length h.1
+spelled_size boolean true b h = ap length h
+spelled_size boolean false b h = ap length h
+spelled_size buffer None b h = ap length h
+spelled_size buffer (Some bytes) b h = sized bytes b h
+spelled_size ustring text b h = sized text b h.0
+spelled_size count None b h = ap length h
+spelled_size count (Some n) b h = ap length h.1
+spelled_size (pair s t) v b h = omega (arith, ap length h.4, length-append h.0 h.1, spelled_size s v.0 h.0 h.2, spelled_size t v.1 h.1 h.3)
+spelled_size (vector t) None b h = ap length h
+spelled_size (vector t) (Some vs) b h =
+    let head : length h.0 ≡ 4 = ap length h.2.1 in
+    omega (arith, head, ap length h.4, length-append h.0 h.1, each_size (Spells t) (size t) (spelled_size t) vs h.1 h.3)
+
+-- ---- how long names are sealed
+
+filled : (n : List ℕ) → n ≢ [] → 1 ≤ length n
+filled [] h = absurd (h refl)
+filled (b ∷ n) h = omega (arith, one_more)
+  where
+    one_more : length (b ∷ n) ≡ suc (length n)
+    one_more = refl
+
+slash_size : (p n : List ℕ) → length (p ++ 47 ∷ n) ≡ length p + 1 + length n
+slash_size p n = omega (arith, length-append p (47 ∷ n), one_more)
+  where
+    one_more : length (47 ∷ n) ≡ suc (length n)
+    one_more = refl
+
+joined_growth : (k : Keys) (p : List (List ℕ)) → IsPath p → length (joined (sealed k p)) ≤ 30 * length (joined p)
+unfolding joined sealed
+joined_growth k [] h = omega arith
+joined_growth k (n ∷ p) h = omega (
+  arith,
+  slash_size (joined (sealed k p)) (SealName k p n),
+  slash_size (joined p) n,
+  length-SealName k p n,
+  filled n (All-head IsComponent n p h).filled,
+  joined_growth k p (All-tail IsComponent n p h),
+)
+
+text_growth : (k : Keys) (p : List (List ℕ)) → IsPath p → length (SealPath k p) ≤ 30 * length (text_of p)
+unfolding text_of sealed
+text_growth k [] h = omega arith
+text_growth k (n ∷ p) h = joined_sealed k n p (joined_growth k (n ∷ p) h)
+  where
+    joined_sealed : (k : Keys) (n : List ℕ) (p : List (List ℕ)) → length (joined (sealed k (n ∷ p))) ≤ 30 * length (joined (n ∷ p)) → length (text_of (sealed k (n ∷ p))) ≤ 30 * length (joined (n ∷ p))
+    joined_sealed k n p g = g
+
+stem_growth : (k : Keys) (s : List (List ℕ)) → IsStem s → length (SealStem k s) ≤ 30 * length (joined s) + 27
+unfolding joined sealed
+stem_growth k [] h = absurd h
+stem_growth k (n ∷ p) h = omega (
+  arith,
+  slash_size (joined (sealed k p)) (SealName k p n),
+  slash_size (joined p) n,
+  length-SealName k p n,
+  joined_growth k p h.1,
+)
+
+path_grown : (k : Keys) (plain veiled : List ℕ) → SealsText k plain veiled → length veiled ≤ 30 * length plain
+path_grown k plain veiled h = omega (arith, ap length h.is_sealed, ap length h.spelled, text_growth k h.path h.legal)
+
+name_grown : (k : Keys) (flags : ℤ) (text : List ℕ) (sequential : Bool) (p : List (List ℕ)) → IsNameOf flags text sequential p → length (SealNameOf k sequential p) ≤ 30 * length text + 27
+unfolding IsNameOf SealNameOf
+name_grown k flags text true p h = omega (arith, ap length h.2, stem_growth k p h.1)
+name_grown k flags text false p h = omega (arith, ap length h.2, text_growth k p h.1)
+
+-- ---- how long a payload is
+
+sealed_size : (key iv : List ℕ) (p : List (List ℕ)) (sequential : Bool) (d : Option (List ℕ)) → length iv ≡ 12 → length (SealData key iv p sequential d) ≡ length (content_of d) + 61
+unfolding SealData plain_payload
+sealed_size key iv p sequential d size_of =
+    let plain : List ℕ = flag_of sequential d ∷ (sha256 (text_of p) ++ content_of d) in
+    let one_more : length plain ≡ suc (length (sha256 (text_of p) ++ content_of d)) = refl in
+    omega (
+      arith,
+      size_of,
+      one_more,
+      length-append iv (Gcm key iv [] plain),
+      length-append (text_under key iv plain) (gcm_tag key iv [] (text_under key iv plain)),
+      length-text_under key iv plain,
+      length-gcm_tag key iv [] (text_under key iv plain),
+      length-append (sha256 (text_of p)) (content_of d),
+      length-sha256 (text_of p),
+    )
+
+content_size : (d : Option (List ℕ)) → size buffer d ≡ length (content_of d) + 4
+content_size None = refl
+content_size (Some bytes) = refl
+
+abbrev AreIvs12 : List (List ℕ) → Type 0
+AreIvs12 ivs = All (λ iv. length iv ≡ 12) ivs
+
+the_iv : (ivs : List (List ℕ)) (iv : List ℕ) → AreIvs12 ivs → ivs ≡ iv ∷ [] → length iv ≡ 12
+the_iv ivs iv all e = All-head (λ x. length x ≡ 12) iv [] (subst AreIvs12 e all)
+
+payload_grown : (key iv : List ℕ) (p : List (List ℕ)) (sequential : Bool) (d veiled : Option (List ℕ)) → length iv ≡ 12 → veiled ≡ Some (SealData key iv p sequential d) → size buffer veiled ≡ size buffer d + 61
+payload_grown key iv p sequential d veiled twelve e = omega (arith, ap (size buffer) e, sealed_size key iv p sequential d twelve, content_size d)
+
+-- ---- records
+
+create_grown : (k : EntryKeys) (ivs : List (List ℕ)) (r v : CreateRequest) → AreIvs12 ivs → VeilsCreate k ivs r v → size create_request (create_fields v) ≤ 30 * size create_request (create_fields r)
+create_grown k ivs r v all x = omega (
+  arith,
+  ap length x.sealed_path,
+  name_grown k.names r.flags r.path x.sequential x.path x.named,
+  payload_grown k.payloads x.iv x.path x.sequential r.content v.content (the_iv ivs x.iv all x.one_iv) x.sealed_content,
+  ap (λ (list : Option (List Acl)). size acls (acls_fields list)) x.same_acls,
+)
+
+content_grown : (k : EntryKeys) (ivs : List (List ℕ)) (r v : SetContentRequest) → AreIvs12 ivs → VeilsSetContent k ivs r v → size set_content_request (set_content_fields v) ≤ 30 * size set_content_request (set_content_fields r)
+content_grown k ivs r v all x = omega (
+  arith,
+  path_grown k.names r.path v.path x.text,
+  payload_grown k.payloads x.iv x.text.path false r.content v.content (the_iv ivs x.iv all x.one_iv) x.sealed_content,
+)
+
+delete_grown : (k : Keys) (r v : DeleteRequest) → VeilsDelete k r v → size delete_request (delete_fields v) ≤ 30 * size delete_request (delete_fields r)
+delete_grown k r v x = omega (arith, path_grown k r.path v.path x.text)
+
+check_grown : (k : Keys) (r v : CheckRequest) → VeilsCheck k r v → size check_request (check_fields v) ≤ 30 * size check_request (check_fields r)
+check_grown k r v x = omega (arith, path_grown k r.path v.path x.text)
+
+watch_grown : (k : Keys) (r v : PathWatch) → VeilsPathWatch k r v → size path_watch (path_watch_fields v) ≤ 30 * size path_watch (path_watch_fields r)
+watch_grown k r v x = omega (arith, path_grown k r.path v.path x.text)
+
+only_grown : (k : Keys) (r v : PathOnly) → VeilsPathOnly k r v → size path_only (path_only_fields v) ≤ 30 * size path_only (path_only_fields r)
+only_grown k r v x = omega (arith, path_grown k r.path v.path x.text)
+
+acl_grown : (k : Keys) (r v : SetAclRequest) → VeilsSetAcl k r v → size set_acl_request (set_acl_fields v) ≤ 30 * size set_acl_request (set_acl_fields r)
+acl_grown k r v x = omega (
+  arith,
+  path_grown k r.path v.path x.text,
+  ap (λ (list : Option (List Acl)). size acls (acls_fields list)) x.same_acls,
+)
+
+texts_grown : (k : Keys) (plain veiled : List (List ℕ)) → AllZip (SealsText k) plain veiled → sum_by (size ustring) veiled ≤ 30 * sum_by (size ustring) plain
+texts_grown k [] [] h = omega arith
+texts_grown k [] (v ∷ vs) h = absurd h
+texts_grown k (p ∷ ps) [] h = absurd h
+texts_grown k (p ∷ ps) (v ∷ vs) h = omega (
+  arith,
+  path_grown k p v h.0,
+  texts_grown k ps vs h.1,
+  sum_by-cons (size ustring) p ps,
+  sum_by-cons (size ustring) v vs,
+)
+
+list_grown : (k : Keys) (plain veiled : Option (List (List ℕ))) → SealsList k plain veiled → size (vector ustring) veiled ≤ 30 * size (vector ustring) plain
+list_grown k None None h = omega arith
+list_grown k None (Some v) h = absurd h
+list_grown k (Some p) None h = absurd h
+list_grown k (Some p) (Some v) h = omega (arith, texts_grown k p v h)
+
+watches_grown : (k : Keys) (r v : SetWatches) → VeilsWatches k r v → size set_watches (set_watches_fields v) ≤ 30 * size set_watches (set_watches_fields r)
+watches_grown k r v x = omega (
+  arith,
+  list_grown k r.content_paths v.content_paths x.content,
+  list_grown k r.exist_paths v.exist_paths x.exist,
+  list_grown k r.child_paths v.child_paths x.child,
+)
+
+-- ---- operations, each behind its header of 9 bytes
+
+abbrev pub op_size : Op → ℕ
+op_size op = 9 + size (op_record (op_kind_of op)) (op_fields op)
+
+op_spelled_size : (op : Op) (b : List ℕ) → SpellsOp op b → length b ≡ op_size op
+unfolding SpellsOp
+op_spelled_size op b h = spelled_size (pair (pair int (pair boolean int)) (op_record (op_kind_of op))) _ b h
+
+ops_spelled_size : (list : List Op) (b : List ℕ) → SpellsOps list b → length b ≡ sum_by op_size list + 9
+ops_spelled_size list b h = omega (
+  arith,
+  ap length h.cut,
+  length-append h.items h.last,
+  each_size SpellsOp op_size op_spelled_size list h.items h.each,
+  spelled_size (pair int (pair boolean int)) _ h.last h.ended,
+)
+
+op_grown : (k : EntryKeys) (ivs : List (List ℕ)) (r v : Op) → AreIvs12 ivs → VeilsOp k ivs r v → op_size v ≤ 30 * op_size r
+unfolding VeilsOp
+op_grown k ivs (ops.Create r) (ops.Create v) all x = omega (arith, create_grown k ivs r v all x)
+op_grown k ivs (ops.Create r) other all x = absurd x
+op_grown k ivs (ops.Delete r) (ops.Delete v) all x = omega (arith, delete_grown k.names r v x.0)
+op_grown k ivs (ops.Delete r) other all x = absurd x
+op_grown k ivs (ops.SetContent r) (ops.SetContent v) all x = omega (arith, content_grown k ivs r v all x)
+op_grown k ivs (ops.SetContent r) other all x = absurd x
+op_grown k ivs (ops.Check r) (ops.Check v) all x = omega (arith, check_grown k.names r v x.0)
+op_grown k ivs (ops.Check r) other all x = absurd x
+
+front_12 : (a b : List (List ℕ)) → AreIvs12 (a ++ b) → AreIvs12 a
+front_12 [] b all = λ k d less. absurd (omega (arith, less))
+front_12 (iv ∷ a) b all = All-cons (λ x. length x ≡ 12) iv a (All-head (λ x. length x ≡ 12) iv (a ++ b) all) (front_12 a b (All-tail (λ x. length x ≡ 12) iv (a ++ b) all))
+
+back_12 : (a b : List (List ℕ)) → AreIvs12 (a ++ b) → AreIvs12 b
+back_12 [] b all = all
+back_12 (iv ∷ a) b all = back_12 a b (All-tail (λ x. length x ≡ 12) iv (a ++ b) all)
+
+ops_grown : (k : EntryKeys) (ivs : List (List ℕ)) (rs vs : List Op) → AreIvs12 ivs → VeilsOps k ivs rs vs → sum_by op_size vs ≤ 30 * sum_by op_size rs
+unfolding VeilsOps
+ops_grown k ivs [] [] all x = omega arith
+ops_grown k ivs [] (v ∷ vs) all x = absurd x
+ops_grown k ivs (r ∷ rs) [] all x = absurd x
+ops_grown k ivs (r ∷ rs) (v ∷ vs) all x =
+    let both : AreIvs12 (x.0 ++ x.1) = subst AreIvs12 x.4 all in
+    omega (
+      arith,
+      op_grown k x.0 r v (front_12 x.0 x.1 both) x.2,
+      ops_grown k x.1 rs vs (back_12 x.0 x.1 both) x.3,
+      sum_by-cons op_size r rs,
+      sum_by-cons op_size v vs,
+    )
+
+-- ---- requests, each behind its header of 8 bytes
+
+abbrev pub request_size : Request → ℕ
+request_size (requests.Create r) = size create_request (create_fields r)
+request_size (requests.Delete r) = size delete_request (delete_fields r)
+request_size (requests.Exists r) = size path_watch (path_watch_fields r)
+request_size (requests.GetContent r) = size path_watch (path_watch_fields r)
+request_size (requests.SetContent r) = size set_content_request (set_content_fields r)
+request_size (requests.GetAcl r) = size path_only (path_only_fields r)
+request_size (requests.SetAcl r) = size set_acl_request (set_acl_fields r)
+request_size (requests.GetChildren r) = size path_watch (path_watch_fields r)
+request_size (requests.GetChildren2 r) = size path_watch (path_watch_fields r)
+request_size (requests.Sync r) = size path_only (path_only_fields r)
+request_size requests.Ping = 0
+request_size (requests.Multi list) = sum_by op_size list + 9
+request_size (requests.SetWatches r) = size set_watches (set_watches_fields r)
+request_size (requests.Auth body) = length body
+request_size requests.Close = 0
+request_size (requests.Unknown kind body) = length body
+
+rest_size : (r : Request) (b : List ℕ) → SpellsForm (form_of_any (kind_of r)) (fields_of r) b → length b ≡ request_size r
+unfolding SpellsForm
+rest_size (requests.Create r) b h = spelled_size create_request (create_fields r) b h
+rest_size (requests.Delete r) b h = spelled_size delete_request (delete_fields r) b h
+rest_size (requests.Exists r) b h = spelled_size path_watch (path_watch_fields r) b h
+rest_size (requests.GetContent r) b h = spelled_size path_watch (path_watch_fields r) b h
+rest_size (requests.SetContent r) b h = spelled_size set_content_request (set_content_fields r) b h
+rest_size (requests.GetAcl r) b h = spelled_size path_only (path_only_fields r) b h
+rest_size (requests.SetAcl r) b h = spelled_size set_acl_request (set_acl_fields r) b h
+rest_size (requests.GetChildren r) b h = spelled_size path_watch (path_watch_fields r) b h
+rest_size (requests.GetChildren2 r) b h = spelled_size path_watch (path_watch_fields r) b h
+rest_size (requests.Sync r) b h = spelled_size path_only (path_only_fields r) b h
+rest_size requests.Ping b h = ap length h
+rest_size (requests.Multi list) b h = ops_spelled_size list b h
+rest_size (requests.SetWatches r) b h = spelled_size set_watches (set_watches_fields r) b h
+rest_size (requests.Auth body) b h = ap length h
+rest_size requests.Close b h = ap length h
+rest_size (requests.Unknown kind body) b h = ap length h
+
+pub body_size : (xid : ℤ) (r : Request) (b : List ℕ) → SpellsRequest xid r b → length b ≡ request_size r + 8
+body_size xid r b h = omega (
+  arith,
+  ap length h.cut,
+  length-append h.header h.rest,
+  spelled_size request_header (xid, number_of r) h.header h.head,
+  rest_size r h.rest h.tail,
+)
+
+form_grown : (k : EntryKeys) (ivs : List (List ℕ)) (r v : Request) → AreIvs12 ivs → Veils k ivs r v → request_size v ≤ 30 * request_size r
+unfolding Veils
+form_grown k ivs (requests.Create r) (requests.Create v) all x = create_grown k ivs r v all x
+form_grown k ivs (requests.Create r) other all x = absurd x
+form_grown k ivs (requests.Delete r) (requests.Delete v) all x = delete_grown k.names r v x.0
+form_grown k ivs (requests.Delete r) other all x = absurd x
+form_grown k ivs (requests.Exists r) (requests.Exists v) all x = watch_grown k.names r v x.0
+form_grown k ivs (requests.Exists r) other all x = absurd x
+form_grown k ivs (requests.GetContent r) (requests.GetContent v) all x = watch_grown k.names r v x.0
+form_grown k ivs (requests.GetContent r) other all x = absurd x
+form_grown k ivs (requests.SetContent r) (requests.SetContent v) all x = content_grown k ivs r v all x
+form_grown k ivs (requests.SetContent r) other all x = absurd x
+form_grown k ivs (requests.GetAcl r) (requests.GetAcl v) all x = only_grown k.names r v x.0
+form_grown k ivs (requests.GetAcl r) other all x = absurd x
+form_grown k ivs (requests.SetAcl r) (requests.SetAcl v) all x = acl_grown k.names r v x.0
+form_grown k ivs (requests.SetAcl r) other all x = absurd x
+form_grown k ivs (requests.GetChildren r) (requests.GetChildren v) all x = watch_grown k.names r v x.0
+form_grown k ivs (requests.GetChildren r) other all x = absurd x
+form_grown k ivs (requests.GetChildren2 r) (requests.GetChildren2 v) all x = watch_grown k.names r v x.0
+form_grown k ivs (requests.GetChildren2 r) other all x = absurd x
+form_grown k ivs (requests.Sync r) (requests.Sync v) all x = only_grown k.names r v x.0
+form_grown k ivs (requests.Sync r) other all x = absurd x
+form_grown k ivs (requests.Multi r) (requests.Multi v) all x = omega (arith, ops_grown k ivs r v all x)
+form_grown k ivs (requests.Multi r) other all x = absurd x
+form_grown k ivs (requests.SetWatches r) (requests.SetWatches v) all x = watches_grown k.names r v x.0
+form_grown k ivs (requests.SetWatches r) other all x = absurd x
+form_grown k ivs requests.Ping requests.Ping all x = omega arith
+form_grown k ivs requests.Ping other all x = absurd x
+form_grown k ivs requests.Close requests.Close all x = omega arith
+form_grown k ivs requests.Close other all x = absurd x
+form_grown k ivs (requests.Auth body) other all x = absurd x
+form_grown k ivs (requests.Unknown kind body) other all x = absurd x
+
+veil_grown : (k : EntryKeys) (ivs : List (List ℕ)) (r v : Request) → AreIvs12 ivs → Veil k ivs r v → request_size v + 8 ≤ 30 * (request_size r + 8)
+unfolding Veil
+veil_grown k ivs r v all (inl x) = omega (arith, ap request_size x.2)
+veil_grown k ivs r v all (inr x) = omega (arith, form_grown k ivs r v all x.1)
+
+pub grows_by_thirty : GrowsByThirty
+grows_by_thirty k ivs xid r v a b all x p q = omega (arith, body_size xid r a p, body_size xid v b q, veil_grown k ivs r v all x)

@@ -1,0 +1,5 @@
+use Rattle.request_rewrite.proofs.Sizes.{grows_by_thirty}
+use Rattle.request_rewrite.proofs.grows_by_thirty.Goals as goal
+
+pub returns : goal.returns
+returns c = grows_by_thirty

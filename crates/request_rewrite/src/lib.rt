@@ -1,0 +1,39 @@
+//! Requests on their way to a store that is not trusted: every name and payload sealed, and all else as it was.
+//!
+//! `specs/Veil.antt` says what the store is handed in place of a request, under exactly which IVs; `specs/Asks.antt` what
+//! is kept of the request for its reply; `specs/Ivs.antt` which IVs it takes. The crate stands on `zk_messages` for
+//! requests and for which of them are refused, on `path_seal`, `payload_seal` and `watch_rewrite` for sealing, and on
+//! `request_queue` for what waits for a reply.
+//!
+//! Read [`veil_request`] first, then `veil_create` in `records.rt`, then `veil_ops` in `ops.rt`, then the laws at the end of
+//! this file.
+#![tactic(auto)]
+
+ghost use Rattle.request_rewrite.specs.Laws.{IsVeiledOnce, GrowsByThirty, IsShortWhenRead};
+
+mod names;
+mod ops;
+mod records;
+mod requests;
+mod veiling;
+
+pub use veiling::{NotVeiled, veil_request};
+
+/// The law that a request has one number of payloads to seal, and under keys and IVs one veiled form.
+pub fn veiled_once()
+    ensures { IsVeiledOnce }
+{}
+
+/// The law that a body is handed up in at most 30 times its bytes. The most comes of a path with many names of one byte:
+/// two bytes of it become 59.
+pub fn grows_by_thirty()
+    ensures { GrowsByThirty }
+{}
+
+/// The law that a request that was read from a body of at most 134,217,728 bytes is short enough for [`veil_request`].
+pub fn short_when_read()
+    ensures { IsShortWhenRead }
+{}
+
+#[cfg(test)]
+mod tests;

@@ -1,0 +1,159 @@
+//! Sealed forms that other programs give for the key file 00 to 3f, boot 0 and connection 1; the last IV; each type of
+//! request once with ample memory; and the worst growth.
+
+ghost use Rattle.std.specs.Prelude.{IfOk};
+ghost use Rattle.request_rewrite.specs.Short.{HasShortParts};
+
+use super::*;
+use payload_seal::{IvSource, read_keys};
+use request_queue::{Asked, Pending};
+use std::alloc::Global;
+use std::test::Fail;
+use zk_messages::{Request, read_request};
+
+const FILE: [u8; 64] = [
+    0, 1, 2, 3, 4, 5, 6, 7, 8, 9, 10, 11, 12, 13, 14, 15, 16, 17, 18, 19, 20, 21, 22, 23, 24, 25,
+    26, 27, 28, 29, 30, 31, 32, 33, 34, 35, 36, 37, 38, 39, 40, 41, 42, 43, 44, 45, 46, 47, 48, 49,
+    50, 51, 52, 53, 54, 55, 56, 57, 58, 59, 60, 61, 62, 63,
+];
+
+// create "/app" with "hello", and what its path and its content are sealed to.
+const CREATE_APP: &str =
+    "0000000100000001000000042f6170700000000568656c6c6f000000010000001f00000005776f726c6400000006616e796f6e6500000000";
+
+const SEALED_APP: &str = "/fe4506f06cc3efab7cb19ac1dbcadd8ac5ebcd31cd575fa57ce33a0f2094fe";
+
+const HELLO: &str =
+    "0000000000000001000000009bb332b6446a4226dcc6d3c194c4982ca239c3d518f7f01d682d2f5c3533d15e3e2190748156a742a6e20d6f4d0807b2932c613c24f9";
+
+// create "/q/n-" with "one", sequential and ephemeral.
+const CREATE_STEM: &str =
+    "0000000100000001000000052f712f6e2d000000036f6e65000000010000001f00000005776f726c6400000006616e796f6e6500000003";
+
+const SEALED_STEM: &str =
+    "/32c8bcbdfdc48170ded594ff87ec2249754ee0ae8dd98814ab8fde07ca/04db240379dceee87d45726e93c2e92de5f7fef17c31e1adbef28ca218d4";
+
+const ONE: &str =
+    "0000000000000001000000009a4702209d2f41664a4ca9ae5104b79f75739a3e753fdb05e2dda7d7bd5d1fbd10269b7d4e5679e5d034dfec1b49db0bf1a7cf8d";
+
+// A multi of two creates.
+const TWO_CREATES: &str =
+    "000000020000000e0000000100ffffffff000000022f610000000131000000010000001f00000005776f726c6400000006616e796f6e65000000000000000100ffffffff000000022f620000000132000000010000001f00000005776f726c6400000006616e796f6e6500000000ffffffff01ffffffff";
+
+// exists of a path of 40 names of one byte.
+const DEEP: &str =
+    "0000000100000003000000502f612f612f612f612f612f612f612f612f612f612f612f612f612f612f612f612f612f612f612f612f612f612f612f612f612f612f612f612f612f612f612f612f612f612f612f612f612f612f612f6100";
+
+// One of each type, with four payloads together.
+const EACH_TYPE: [&str; 14] = [
+    "0000000100000001000000042f6170700000000568656c6c6f000000010000001f00000005776f726c6400000006616e796f6e6500000000",
+    "0000000100000002000000022f61ffffffff",
+    "0000000100000003000000022f6101",
+    "0000000100000004000000022f6100",
+    "0000000100000005000000022f610000000178ffffffff",
+    "0000000100000006000000022f61",
+    "0000000100000007000000022f61000000010000001f00000005776f726c6400000006616e796f6e65ffffffff",
+    "0000000100000008000000022f6101",
+    "0000000100000009000000022f61",
+    "fffffffe0000000b",
+    "000000010000000c000000022f6100",
+    "000000020000000e0000000100ffffffff000000022f6200000000000000010000001f00000005776f726c6400000006616e796f6e65000000000000000500ffffffff000000022f6100000000000000050000000200ffffffff000000022f61ffffffffffffffff01ffffffff",
+    "fffffff800000065000000000000000200000001000000022f610000000000000000",
+    "00000002fffffff5",
+];
+
+fn request_in(alloc: Global, body: &str) -> Result<Request, Fail>
+    ensures { IfOk result HasShortParts }
+{
+    let body = hex::decode(alloc, body)?;
+    if body.len() > 1000 {
+        return Err("a long body".into());
+    }
+    short_when_read();
+    let (_, request) = read_request(alloc, body.as_slice()).map_err(|_| "no request")?;
+    Ok(request)
+}
+
+// Under the first IVs of the connection.
+fn first_form(alloc: Global, body: &str) -> Result<(Request, Pending), Fail> {
+    let keys = read_keys(&FILE)?;
+    let mut ivs = IvSource::new(0, 1);
+    let request = request_in(alloc, body)?;
+    Ok(veil_request(alloc, &keys, &mut ivs, 7, 56, &request)?)
+}
+
+fn is_create(veiled: &Request, sealed: &str, payload: &[u8], flags: i32) -> bool {
+    let Request::Create(create) = veiled else {
+        return false;
+    };
+    let Some(content) = &create.content else {
+        return false;
+    };
+    create.path.as_str() == sealed && content.as_slice() == payload && create.flags == flags
+}
+
+fn asks_create(pending: &Pending, plain: &str, stem: bool) -> bool {
+    match &pending.asked {
+        Asked::Create { path, sequential } => path.text() == plain && *sequential == stem,
+        _ => false,
+    }
+}
+
+// The body has 176 bytes: 47, and 63 and 66 that are sealed.
+#[test]
+fn a_create_is_sealed_as_elsewhere(rt: HostRuntime) -> Result<(), Fail> {
+    let payload = hex::decode(rt.alloc(), HELLO)?;
+    let (veiled, pending) = first_form(rt.alloc(), CREATE_APP)?;
+    let is_sealed = is_create(&veiled, SEALED_APP, payload.as_slice(), 0);
+    let is_asked = asks_create(&pending, "/app", false);
+    assert!(rt; is_sealed && is_asked && pending.xid == 7 && pending.bytes == 56);
+    Ok(())
+}
+
+#[test]
+fn a_sequential_create_is_sealed_for_its_stem(rt: HostRuntime) -> Result<(), Fail> {
+    let payload = hex::decode(rt.alloc(), ONE)?;
+    let (veiled, pending) = first_form(rt.alloc(), CREATE_STEM)?;
+    let is_sealed = is_create(&veiled, SEALED_STEM, payload.as_slice(), 3);
+    let is_asked = asks_create(&pending, "/q/n-", true);
+    assert!(rt; is_sealed && is_asked);
+    Ok(())
+}
+
+#[test]
+fn the_last_iv_seals_one_create_and_not_two(rt: HostRuntime) -> Result<(), Fail> {
+    let alloc = rt.alloc();
+    let keys = read_keys(&FILE)?;
+    let mut ivs = IvSource::starting(0, 1, 4_294_967_295);
+    let two = request_in(alloc, TWO_CREATES)?;
+    let spent = veil_request(alloc, &keys, &mut ivs, 1, 99, &two).err();
+    assert_eq!(rt; spent, Some(NotVeiled::Spent));
+    assert_eq!(rt; ivs.left(), 1);
+    let one = request_in(alloc, CREATE_APP)?;
+    assert!(rt; veil_request(alloc, &keys, &mut ivs, 2, 56, &one).is_ok());
+    assert_eq!(rt; ivs.left(), 0);
+    Ok(())
+}
+
+#[test]
+fn each_type_is_veiled(rt: HostRuntime) -> Result<(), Fail> {
+    let alloc = rt.alloc();
+    let keys = read_keys(&FILE)?;
+    let mut ivs = IvSource::starting(0, 1, 4_294_967_292);
+    for body in EACH_TYPE {
+        let request = request_in(alloc, body)?;
+        let (veiled, pending) = veil_request(alloc, &keys, &mut ivs, 3, 99, &request)?;
+        assert!(rt; veiled.kind() == request.kind());
+        assert!(rt; !matches!(&pending.asked, Asked::Refused { .. }));
+    }
+    assert_eq!(rt; ivs.left(), 0);
+    Ok(())
+}
+
+// The worst growth: 59 bytes for each two.
+#[test]
+fn names_of_one_byte_grow_most(rt: HostRuntime) -> Result<(), Fail> {
+    let (veiled, _) = first_form(rt.alloc(), DEEP)?;
+    assert!(rt; matches!(&veiled, Request::Exists(request) if request.path.len() == 2360));
+    Ok(())
+}
