@@ -63,9 +63,13 @@ pub record PrintsEvents (events : List Event) (text : List ℕ) : Type 0 where
 abbrev pub IsOutside : Told → (List ℕ → Type 0) → Type 0
 IsOutside told P = (bytes : List ℕ) × MayHold told bytes × (P bytes → ⊥)
 
--- a cause of NotBuilt in the files of a replay
+-- it may hold bytes that are
+abbrev pub MayBe : Told → (List ℕ → Type 0) → Type 0
+MayBe told P = (bytes : List ℕ) × MayHold told bytes × P bytes
+
+-- a cause of NotBuilt in the files of a replay, of which the key is read first
 abbrev pub CannotBuild : Told → Told → Type 0
-CannotBuild key script = IsOutside key IsKey ⊎ IsOutside script IsBuiltScript
+CannotBuild key script = IsOutside key IsKey ⊎ (MayBe key IsKey × IsOutside script IsBuiltScript)
 
 -- the text is what a replay of a key and a script in these files prints
 pub record IsReplayText (key script : Told) (text : List ℕ) : Type 0 where
