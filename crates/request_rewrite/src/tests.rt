@@ -1,7 +1,8 @@
 //! Sealed forms that other programs give for the key file 00 to 3f, boot 0 and connection 1; the last IV; each type of
 //! request once with ample memory; and the worst growth.
 
-ghost use Rattle.std.specs.Prelude.{IfOk};
+ghost use Rattle.std.specs.Prelude.{IfOk, IsTrue};
+ghost use Rattle.zk_records.specs.Acls.{AreShortAcls};
 ghost use Rattle.request_rewrite.specs.Short.{HasShortParts};
 
 use super::*;
@@ -9,7 +10,8 @@ use payload_seal::{IvSource, read_keys};
 use request_queue::{Asked, Pending};
 use std::alloc::Global;
 use std::test::Fail;
-use zk_messages::{Request, read_request};
+use zk_messages::{Request, read_request, write_request};
+use zk_records::{Acls, CreateRequest};
 
 const FILE: [u8; 64] = [
     0, 1, 2, 3, 4, 5, 6, 7, 8, 9, 10, 11, 12, 13, 14, 15, 16, 17, 18, 19, 20, 21, 22, 23, 24, 25,
@@ -25,6 +27,10 @@ const SEALED_APP: &str = "/fe4506f06cc3efab7cb19ac1dbcadd8ac5ebcd31cd575fa57ce33
 
 const HELLO: &str =
     "0000000000000001000000009bb332b6446a4226dcc6d3c194c4982ca239c3d518f7f01d682d2f5c3533d15e3e2190748156a742a6e20d6f4d0807b2932c613c24f9";
+
+// The whole body that the store is handed for it.
+const VEILED_APP: &str =
+    "00000001000000010000003f2f6665343530366630366363336566616237636231396163316462636164643861633565626364333163643537356661353763653333613066323039346665000000420000000000000001000000009bb332b6446a4226dcc6d3c194c4982ca239c3d518f7f01d682d2f5c3533d15e3e2190748156a742a6e20d6f4d0807b2932c613c24f9000000010000001f00000005776f726c6400000006616e796f6e6500000000";
 
 // create "/q/n-" with "one", sequential and ephemeral.
 const CREATE_STEM: &str =
@@ -99,7 +105,41 @@ fn asks_create(pending: &Pending, plain: &str, stem: bool) -> bool {
     }
 }
 
-// The body has 176 bytes: 47, and 63 and 66 that are sealed.
+fn are_short(acls: &Acls) -> bool
+    ensures { IsTrue result → AreShortAcls acls.now }
+{
+    let mut texts = acls.as_slice().iter();
+    acls.len() < 10 && texts.all(|acl| acl.scheme.len() < 100 && acl.id.len() < 100)
+}
+
+// The body that spells a create of short parts with the xid 1.
+fn body_of(alloc: Global, create: CreateRequest) -> Result<Vec<u8>, Fail> {
+    let are_short = match (&create.content, &create.acls) {
+        (Some(content), Some(acls)) => content.len() < 1000 && are_short(acls),
+        _ => false,
+    };
+    if create.path.len() >= 1000 || !are_short {
+        return Err("no short create".into());
+    }
+    let mut body = Vec::new(alloc);
+    write_request(1, &Request::Create(create), &mut body)?;
+    Ok(body)
+}
+
+// 56 bytes become 176: 47, and 63 and 66 that are sealed.
+#[test]
+fn a_create_is_written_out_as_elsewhere(rt: HostRuntime) -> Result<(), Fail> {
+    let alloc = rt.alloc();
+    let (veiled, _) = first_form(alloc, CREATE_APP)?;
+    let Request::Create(create) = veiled else {
+        return Err("no create".into());
+    };
+    let body = body_of(alloc, create)?;
+    assert_eq!(rt; body.len(), 176);
+    assert!(rt; body == hex::decode(alloc, VEILED_APP)?);
+    Ok(())
+}
+
 #[test]
 fn a_create_is_sealed_as_elsewhere(rt: HostRuntime) -> Result<(), Fail> {
     let payload = hex::decode(rt.alloc(), HELLO)?;
