@@ -1,5 +1,5 @@
 -- What holds of a request that is not refused.
-use Rattle.std.proofs.Common.{◌≡◌, ℕ, ℤ, List, [], ◌∷◌, Option, Some, None, inl, inr}
+use Rattle.std.proofs.Common.{ℕ, ℤ, List, [], ◌∷◌, Option, None, inl, inr}
 use Rattle.std.specs.Prelude.{All}
 use Rattle.std.proofs.lemmas.List.Elements.{All-nil, All-cons}
 use Rattle.std.proofs.lemmas.Option.{none-some}
@@ -8,10 +8,10 @@ use Rattle.watch_rewrite.specs.Watches.{EachText}
 use Rattle.zk_records.specs.declared.create.CreateRequest.{CreateRequest}
 use Rattle.zk_records.specs.declared.set_acl.SetAclRequest.{SetAclRequest}
 use Rattle.zk_records.specs.declared.set_watches.SetWatches.{SetWatches}
-use Rattle.zk_messages.specs.Refuses.{Rule, IsNameFor, IsOpen, RefusesPath, RefusesNode, RefusesCreate, RefusesSetAcl, RefusesWatches, RefusesOp, RefusesOps}
+use Rattle.zk_messages.specs.Refuses.{Rule, IsNameFor, IsOpen, RefusesPath, RefusesNode, RefusesCreate, RefusesSetAcl, RefusesWatches, RefusesOps}
 use Rattle.zk_messages.specs.declared.request.Op.{Op}
 use Rattle.request_rewrite.specs.Veil.{IsAllowedOp}
-use Rattle.request_rewrite.proofs.Stable.{CannotFail, is_path_text, is_name_for, is_open, are_paths}
+use Rattle.request_rewrite.proofs.Stable.{is_path_text, is_name_for, is_open, are_paths}
 
 -- the first rule does not fit, nor does any after it
 not_first : (Holds : Type 0) (code : ℤ) (Next : Option ℤ → Type 0) → Rule Holds code Next None → (Holds → ⊥) × Next None

@@ -1,7 +1,7 @@
 -- Paths and stems of requests, and what they are sealed to.
-use Rattle.std.proofs.Common.{◌≡◌, ◌≤◌, ◌^◌, ℕ, ℤ, Bool, true, false, List, [], ◌∷◌, length, refl, sym, ap, ◌∙◌, subst, arith, inl, inr, IsTrue, ◌↔◌}
+use Rattle.std.proofs.Common.{◌≡◌, ◌≤◌, ℕ, ℤ, Bool, true, false, List, [], ◌∷◌, length, refl, sym, ap, ◌∙◌, arith, IsTrue, ◌↔◌}
 use Rattle.std.proofs.lemmas.Bool.{false≢true}
-use Rattle.zk_path.specs.Paths.{IsPath, IsStem, IsPathText, IsStemText, joined, text_of}
+use Rattle.zk_path.specs.Paths.{IsStem, IsPathText, IsStemText, joined, text_of}
 use Rattle.path_seal.specs.Sealed.{Keys, SealPath, SealStem, sealed}
 use Rattle.watch_rewrite.specs.Watches.{IsShortText, SealsText}
 use Rattle.zk_messages.specs.Refuses.{IsNameFor, IsSequential}

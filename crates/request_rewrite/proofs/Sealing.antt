@@ -1,7 +1,5 @@
 -- Records that are sealed field by field.
-use Rattle.std.proofs.Common.{◌≡◌, ◌≤◌, ◌^◌, ℕ, ℤ, Bool, false, List, [], ◌∷◌, length, Option, Some, None, refl, sym, ap, ◌∙◌, arith}
-use Rattle.std.specs.Prelude.{IfSome}
-use Rattle.std.specs.Option.{option_copied}
+use Rattle.std.proofs.Common.{◌≡◌, ℕ, ℤ, Bool, false, List, [], ◌∷◌, Some, refl, sym, ap}
 use Rattle.path_seal.specs.Sealed.{Keys, SealPath}
 use Rattle.payload_seal.specs.Payload.{SealData}
 use Rattle.payload_seal.specs.declared.keys.EntryKeys.{EntryKeys}

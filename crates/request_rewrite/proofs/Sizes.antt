@@ -1,5 +1,5 @@
 -- How many bytes spell a request, and how many its veiled form.
-use Rattle.std.proofs.Common.{◌≡◌, ◌≢◌, ◌⊎◌, ◌≤◌, ◌+◌, ◌*◌, ℕ, ℤ, suc, Bool, true, false, List, [], ◌∷◌, ◌++◌, length, length-append, Option, Some, None, inl, inr, refl, sym, ap, ◌∙◌, subst, arith}
+use Rattle.std.proofs.Common.{◌≡◌, ◌≢◌, ◌≤◌, ◌+◌, ◌*◌, ℕ, ℤ, suc, Bool, true, false, List, [], ◌∷◌, ◌++◌, length, length-append, Option, Some, None, inl, inr, refl, ap, subst, arith}
 use Rattle.std.specs.Prelude.{All, sum_by}
 use Rattle.std.specs.List.{AllZip}
 use Rattle.std.proofs.lemmas.List.Elements.{All-cons, All-head, All-tail}
@@ -38,7 +38,7 @@ use Rattle.zk_messages.specs.declared.request.Request.{Request}
 use Rattle.zk_messages.specs.declared.request.Request.TheVariants as requests
 use Rattle.request_rewrite.specs.Laws.{GrowsByThirty}
 use Rattle.request_rewrite.specs.Names.{IsNameOf, SealNameOf}
-use Rattle.request_rewrite.specs.Veil.{VeilsCreate, VeilsSetContent, VeilsDelete, VeilsCheck, VeilsPathWatch, VeilsPathOnly, VeilsSetAcl, VeilsOp, VeilsOps, Veils, Veil, stand_in}
+use Rattle.request_rewrite.specs.Veil.{VeilsCreate, VeilsSetContent, VeilsDelete, VeilsCheck, VeilsPathWatch, VeilsPathOnly, VeilsSetAcl, VeilsOp, VeilsOps, Veils, Veil}
 
 -- ---- how many bytes spell a value
 

@@ -1,6 +1,6 @@
 -- What a request is not refused for holds: it can be decided.
-use Rattle.std.proofs.Common.{Bool, true, false, bytes_eq, inl, inr, ◌≡◌, ◌⊎◌, ℕ, ℤ, pos, List, [], ◌∷◌, Option, Some, None, refl, sym, ap, subst, ◌∙◌}
-use Rattle.std.specs.Prelude.{All, IfSome, codes}
+use Rattle.std.proofs.Common.{Bool, true, false, bytes_eq, inl, inr, ◌≡◌, ℕ, ℤ, pos, List, [], ◌∷◌, Option, Some, None, refl, sym, ap, subst, ◌∙◌}
+use Rattle.std.specs.Prelude.{codes}
 use Rattle.std.specs.Bool.{Decides}
 use Rattle.std.specs.Str.{IsUtf8, is_utf8}
 use Rattle.std.specs.Cmp.{signed_Decides}
@@ -8,7 +8,7 @@ use Rattle.std.proofs.lemmas.Bool.{false≢true}
 use Rattle.std.proofs.lemmas.Option.{none-some}
 use Rattle.std.proofs.lemmas.Str.{IsUtf8-from_is_utf8, is_utf8-from_IsUtf8}
 use Rattle.std.proofs.lemmas.Slice.Eq.{bytes_eq-Decides}
-use Rattle.zk_path.specs.Paths.{IsComponent, IsStemEnd, IsPath, IsStem, joined, text_of, IsPathText, IsStemText}
+use Rattle.zk_path.specs.Paths.{IsComponent, IsPath, IsStem, joined, text_of, IsPathText, IsStemText}
 use Rattle.zk_path.specs.View.{components}
 use Rattle.zk_path.proofs.Components.{components-joined}
 use Rattle.zk_path.proofs.Judged.{plain, stem_plain, root_is_path}

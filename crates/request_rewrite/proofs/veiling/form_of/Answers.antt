@@ -1,4 +1,4 @@
-use Rattle.std.proofs.Common.{rules, w32, to_z, of_z}
+use Rattle.std.proofs.Common.{rules, w32}
 use Rattle.std.specs.Int.RustNames.{FitsSigned}
 use Rattle.std.proofs.lemmas.Int.{to_z-of_z}
 use Rattle.request_rewrite.proofs.Whole.{refused_veil, refused_asks, refused_left, plain_veil, plain_spent}
