@@ -1,13 +1,13 @@
 -- Causes of a stop.
-use Rattle.std.proofs.Common.{◌≡◌, ◌∙◌, ◌⊎◌, inl, inr, ℕ, List, Result, Ok, Err, subst, arith}
+use Rattle.std.proofs.Common.{◌≡◌, ◌∙◌, ◌⊎◌, inl, inr, ℕ, List, length, Result, Ok, Err, sym, ap, subst, arith}
 use Rattle.std.specs.Prelude.{IfErr}
 use Rattle.replay_cli.specs.declared.script.Event.{Event}
 use Rattle.replay_cli.specs.declared.top_call.Stop.{Stop}
 use Rattle.replay_cli.specs.declared.top_call.Stop.TheVariants.{BadWords, Unread, TooLong, NotBuilt, Memory}
 use Rattle.replay_cli.specs.Script.{IsScript, lines}
 use Rattle.replay_cli.specs.Told.{Told}
-use Rattle.replay_cli.specs.Words.{Words, word, IsReplay, IsShow, Fits, IsFileOf}
-use Rattle.replay_cli.specs.Run.{MayHold, IsTooLong, Prints, IsBuilt, IsBuiltScript, CannotBuild, HasLong, IsNotBuilt}
+use Rattle.replay_cli.specs.Words.{Words, word, IsReplay, IsHostile, IsShow, IsUnbuilt, ReadsFiles, Fits, IsFileOf}
+use Rattle.replay_cli.specs.Run.{Prints, IsBuilt, IsBuiltScript, CannotBuild, IsLongOf, HasLong, StopsAtFile, IsNotBuilt}
 use Rattle.replay_cli.specs.Stops.{Because}
 use Rattle.replay_cli.proofs.ReadingLemmas.{one_script}
 
@@ -31,30 +31,52 @@ either_name : (name key script : List ℕ) (words : Words) → key ≡ word word
 either_name name key script words k s h = elim h [ inl e ↦ inl (e ∙ k) | inr e ↦ inr (e ∙ s) ]
 
 replay_stop : (stop : Stop) (words : Words) (key script : List ℕ) (told : List ℕ → Told) (R : Type 0) → IsReplay words → key ≡ word words 1 → script ≡ word words 2
-    → Because stop ⊥ (λ name. ((name ≡ key) ⊎ (name ≡ script)) × R) (λ name. ((name ≡ key) ⊎ (name ≡ script)) × IsTooLong (told name)) (CannotBuild (told key) (told script))
+    → Because stop ⊥ (λ name. ((name ≡ key) ⊎ (name ≡ script)) × R) (IsLongOf told key script) (CannotBuild (told key) (told script))
     → Because stop (Fits words → ⊥) (λ name. IsFileOf words name × R) (HasLong words told) (IsNotBuilt words told)
 replay_stop BadWords words key script told R is k s h = absurd h
 replay_stop (Unread name) words key script told R is k s h = (inl (is, either_name name.now key script words k s h.0), h.1)
-replay_stop (TooLong name) words key script told R is k s h = (inl (is, either_name name.now key script words k s h.0), h.1)
+replay_stop (TooLong name) words key script told R is k s h = inl (is, subst (λ (n : List ℕ). IsLongOf told (word words 1) n name.now) s (subst (λ (n : List ℕ). IsLongOf told n script name.now) k h))
 replay_stop NotBuilt words key script told R is k s h = inr (is, subst (λ (n : List ℕ). CannotBuild (told (word words 1)) (told n)) s (subst (λ (n : List ℕ). CannotBuild (told n) (told script)) k h))
 replay_stop Memory words key script told R is k s h = tt
 
 -- the causes of a replay, in the words of its command line
 pub replay_stops : {T : Type 0} (r : Result T Stop) (words : Words) (key script : List ℕ) (told : List ℕ → Told) (R : Type 0) → IsReplay words → key ≡ word words 1 → script ≡ word words 2
-    → IfErr r (λ stop. Because stop ⊥ (λ name. ((name ≡ key) ⊎ (name ≡ script)) × R) (λ name. ((name ≡ key) ⊎ (name ≡ script)) × IsTooLong (told name)) (CannotBuild (told key) (told script)))
+    → IfErr r (λ stop. Because stop ⊥ (λ name. ((name ≡ key) ⊎ (name ≡ script)) × R) (IsLongOf told key script) (CannotBuild (told key) (told script)))
     → IfErr r (λ stop. Because stop (Fits words → ⊥) (λ name. IsFileOf words name × R) (HasLong words told) (IsNotBuilt words told))
 replay_stops (Ok x) words key script told R is k s h = tt
 replay_stops (Err stop) words key script told R is k s h = replay_stop stop words key script told R is k s h
 
--- what a show prints, a file may hold
-pub show_held : (words : Words) (told : List ℕ → Told) (text : List ℕ) → IsShow words → Prints words told text → ((bytes : List ℕ) → MayHold (told (word words 1)) bytes → ⊥) → ⊥
-show_held words told text is prints never = elim prints [ inl other ↦ omega (arith, is.0, other.0.0) | inr here ↦ never here.1.bytes here.1.held ]
+-- the words of the two commands with three words differ
+one_of_three : (words : Words) → IsReplay words → IsHostile words → ⊥
+one_of_three words replay hostile = omega (arith, ap length (sym replay.1 ∙ hostile.1))
 
--- a show is built
-pub show_built : (words : Words) (told : List ℕ → Told) → IsShow words → IsNotBuilt words told → ⊥
-show_built words told is unbuilt = elim unbuilt [
-  | inl other ↦ elim other [ inl hostile ↦ omega (arith, is.0, hostile.0) | inr stress ↦ omega (arith, is.0, stress.0.0) ]
-  | inr replay ↦ omega (arith, is.0, replay.0.0)
-]
+-- a command that reads files is built
+reading_built : (words : Words) → ReadsFiles words → IsUnbuilt words → ⊥
+reading_built words (inl replay) (inl hostile) = one_of_three words replay hostile
+reading_built words (inl replay) (inr stress) = omega (arith, replay.0, stress.0.0)
+reading_built words (inr show) (inl hostile) = omega (arith, show.0, hostile.0)
+reading_built words (inr show) (inr stress) = omega (arith, show.0, stress.0.0)
 
-pub ruleset shows = (show_held, show_built)
+one_reading : (words : Words) → IsReplay words → IsShow words → ⊥
+one_reading words replay show = omega (arith, replay.0, show.0)
+
+-- where a command stops at a file, its words fit, it prints nothing, and is built
+pub stops_fit : (words : Words) (told : List ℕ → Told) → StopsAtFile words told → (Fits words → ⊥) → ⊥
+stops_fit words told (inl first) never = never (inl first.0)
+stops_fit words told (inr script) never = never (inl (inl script.0))
+
+pub stops_printing : (words : Words) (told : List ℕ → Told) (text : List ℕ) → StopsAtFile words told → Prints words told text → ⊥
+stops_printing words told text (inl first) (inl replay) = first.1 replay.1.key_bytes replay.1.key_held
+stops_printing words told text (inl first) (inr show) = first.1 show.1.bytes show.1.held
+stops_printing words told text (inr script) (inl replay) = script.2 replay.1.script_bytes replay.1.script_held
+stops_printing words told text (inr script) (inr show) = one_reading words script.0 show.0
+
+pub stops_built : (words : Words) (told : List ℕ → Told) → StopsAtFile words told → IsNotBuilt words told → ⊥
+stops_built words told (inl first) (inl unbuilt) = reading_built words first.0 unbuilt
+stops_built words told (inl first) (inr (is, inl key)) = first.1 key.0 key.1
+stops_built words told (inl first) (inr (is, inr script)) = first.1 script.0.0 script.0.1
+stops_built words told (inr script) (inl unbuilt) = reading_built words (inl script.0) unbuilt
+stops_built words told (inr script) (inr (is, inl key)) = script.1 key
+stops_built words told (inr script) (inr (is, inr other)) = script.2 other.1.0 other.1.1
+
+pub ruleset stops = (stops_fit, stops_printing, stops_built)

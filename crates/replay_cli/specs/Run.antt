@@ -1,7 +1,7 @@
 -- What the commands print, and when they print nothing.
 use Rattle.std.specs.Prelude.{◌≡◌, ℕ, ◌<◌, ◌≤◌, ◌⊎◌, List, length, replicate, codes, Bool, if◌then◌else◌}
 use Rattle.replay_cli.specs.Told.{Told, untold, missing, holds, Agrees}
-use Rattle.replay_cli.specs.Words.{Words, word, IsReplay, IsShow, IsUnbuilt, IsFileOf}
+use Rattle.replay_cli.specs.Words.{Words, word, IsReplay, IsShow, IsUnbuilt, ReadsFiles}
 use Rattle.replay_cli.specs.Show.{IsShown}
 use Rattle.replay_cli.specs.Printed.{Shown, world_text}
 use Rattle.replay_cli.specs.Script.{IsScript, opened, sent, drained}
@@ -93,9 +93,23 @@ abbrev pub Prints : Words → (List ℕ → Told) → List ℕ → Type 0
 Prints words told text = (IsReplay words × IsReplayText (told (word words 1)) (told (word words 2)) text)
     ⊎ (IsShow words × IsShownText (told (word words 1)) text)
 
+-- a file of a replay is too long: the key, or the script behind what may be a key
+abbrev pub IsLongOf : (List ℕ → Told) → List ℕ → List ℕ → List ℕ → Type 0
+IsLongOf told key script name = ((name ≡ key) ⊎ ((name ≡ script) × MayBe (told key) IsKey)) × IsTooLong (told name)
+
 -- a file of the command is too long
 abbrev pub HasLong : Words → (List ℕ → Told) → List ℕ → Type 0
-HasLong words told name = IsFileOf words name × IsTooLong (told name)
+HasLong words told name = (IsReplay words × IsLongOf told (word words 1) (word words 2) name)
+    ⊎ (IsShow words × (name ≡ word words 1) × IsTooLong (told name))
+
+-- no bytes may be the file's: it has more, or there is none
+abbrev pub HoldsNone : Told → Type 0
+HoldsNone told = (bytes : List ℕ) → MayHold told bytes → ⊥
+
+-- a file that the command comes to for certain holds none: its first, or the script behind what can only be a key
+abbrev pub StopsAtFile : Words → (List ℕ → Told) → Type 0
+StopsAtFile words told = (ReadsFiles words × HoldsNone (told (word words 1)))
+    ⊎ (IsReplay words × (IsOutside (told (word words 1)) IsKey → ⊥) × HoldsNone (told (word words 2)))
 
 -- the command is not built, or what its files are
 abbrev pub IsNotBuilt : Words → (List ℕ → Told) → Type 0

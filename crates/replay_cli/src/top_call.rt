@@ -7,7 +7,7 @@ ghost use Rattle.replay_cli.specs.Told.{Told, Agrees};
 ghost use Rattle.replay_cli.specs.Words.{word, Fits, ReadsFiles, IsShow, IsUnbuilt, IsFileOf};
 ghost use Rattle.replay_cli.specs.declared.script.Event.{Event};
 ghost use Rattle.replay_cli.specs.Script.{IsScript};
-ghost use Rattle.replay_cli.specs.Run.{shown, MayHold, IsTooLong, IsBuilt, IsBuiltScript, CannotBuild, PrintsEvents, IsReplayText, IsShownText, Prints, HasLong, IsNotBuilt};
+ghost use Rattle.replay_cli.specs.Run.{shown, MayHold, IsTooLong, IsBuilt, IsBuiltScript, CannotBuild, PrintsEvents, IsReplayText, IsShownText, Prints, IsLongOf, HasLong, StopsAtFile, IsNotBuilt};
 ghost use Rattle.replay_cli.specs.Stops.{exit_status, Because, status_of, complaint_of, too_long_line, Complains};
 
 use crate::files::{FileFault, Files};
@@ -173,9 +173,8 @@ fn replay<'a, F: Files>(
         (F.told files.old script.now) (string_bytes text)) }
     ensures err { IfErr result (λ stop. Because stop ⊥ (λ name. ((name ≡ key.now)
         ⊎ (name ≡ script.now))
-        × Rose (F.faults files.old) (F.faults files.new)) (λ name. ((name ≡ key.now)
-        ⊎ (name ≡ script.now)) × IsTooLong (F.told files.old name)) (CannotBuild
-        (F.told files.old key.now) (F.told files.old script.now))) }
+        × Rose (F.faults files.old) (F.faults files.new)) (IsLongOf (F.told files.old) key.now
+        script.now) (CannotBuild (F.told files.old key.now) (F.told files.old script.now))) }
     ensures later { F.faults files.old ≤ F.faults files.new }
 {
     let key = match load(alloc, key, files) {
@@ -315,7 +314,7 @@ fn complain<E: Sink>(alloc: Global, stop: Stop<'_>, err: &mut E) -> Status
 ///
 /// The words are those of a command line without the program's name. Files have at most 268,435,456 bytes and are read
 /// whole. Each status but `Done` has its line on `err`; only `Done` and `WriteFault` write to `out`.
-#[tactic(auto, using(crate::proofs::RunLemmas::shows))]
+#[tactic(auto, using(crate::proofs::RunLemmas::stops))]
 pub fn run<F: Files, K: Sink, E: Sink>(
     alloc: Global,
     words: &[String],
@@ -330,15 +329,14 @@ pub fn run<F: Files, K: Sink, E: Sink>(
     // A file was not read.
     ensures read_fault { result ≡ Status.ReadFault → ReadsFiles words.now
         × Rose (F.faults files.old) (F.faults files.new) }
-    // A file is too long, and is named.
+    // A file is too long, and is named: a script only where the key may be one.
     ensures too_long { result ≡ Status.InputTooLong → (name : List ℕ)
         × HasLong words.now (F.told files.old) name
         × Wrote (E.taken err.old) (E.taken err.new) (too_long_line name) }
-    // A show of a file that is longer ends so, but for faults and want of memory.
-    ensures long { IsShow words.now
-        → ((bytes : List ℕ) → MayHold (F.told files.old (word words.now 1)) bytes → ⊥)
-        → (result ≡ Status.InputTooLong) ⊎ (result ≡ Status.ReadFault)
-        ⊎ (result ≡ Status.WriteFault) ⊎ (result ≡ Status.Memory) }
+    // A file that is longer ends the run so, but for faults and want of memory.
+    ensures long { StopsAtFile words.now (F.told files.old) → (result ≡ Status.InputTooLong)
+        ⊎ (result ≡ Status.ReadFault) ⊎ (result ≡ Status.WriteFault)
+        ⊎ (result ≡ Status.Memory) }
     // Another command, or a replay whose files are not of the form that is built.
     ensures not_built { result ≡ Status.NotBuilt → IsNotBuilt words.now (F.told files.old) }
     ensures unbuilt { IsUnbuilt words.now → (result ≡ Status.NotBuilt)
