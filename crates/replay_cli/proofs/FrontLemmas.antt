@@ -1,6 +1,5 @@
 -- What stands in front of bytes.
-use Rattle.std.proofs.Common.{◌≡◌, ℕ, pos, ◌<◌, ◌≤◌, ◌^◌, List, [], ◌++◌, length, sym, ap, ◌∙◌, arith, length-append}
-use Rattle.std.proofs.lemmas.Int.{ints}
+use Rattle.std.proofs.Common.{◌≡◌, ℕ, pos, ◌<◌, ◌≤◌, List, ◌++◌, length, sym, ap, ◌∙◌, arith, length-append}
 use Rattle.jute_core.specs.Frames.{frame}
 use Rattle.jute_core.specs.Jute.{int_bytes, IsInt}
 use Rattle.zk_frame.proofs.Prefixes.{same_int, length_of_int, frame_cut, frame_length, int_of_frame, not_beyond}

@@ -1,7 +1,6 @@
 -- Bytes are shown in one way.
-use Rattle.std.proofs.Common.{◌≡◌, ℕ, ℤ, ◌+◌, ◌<◌, ◌≤◌, ◌^◌, List, [], ◌∷◌, ◌++◌, length, Bool, true, false, refl, sym, ap, subst, ◌∙◌, arith, length-append}
+use Rattle.std.proofs.Common.{◌≡◌, ℕ, ℤ, ◌+◌, ◌≤◌, List, [], ◌∷◌, ◌++◌, length, Bool, true, false, refl, sym, ap, subst, ◌∙◌, arith, length-append}
 use Rattle.std.specs.Prelude.{◌==◌}
-use Rattle.std.proofs.lemmas.List.{append-nil}
 use Rattle.jute_core.specs.Frames.{frame, FitsFrame}
 use Rattle.jute_core.specs.declared.cursor.Reason.{Reason}
 use Rattle.jute_core.specs.declared.cursor.Refusal.{Refusal}
@@ -18,7 +17,7 @@ use Rattle.zk_messages.proofs.OnePlace.{one_request_refusal}
 use Rattle.replay_cli.specs.declared.show.Frame.{Frame}
 use Rattle.replay_cli.specs.declared.show.Ending.{Ending}
 use Rattle.replay_cli.specs.declared.show.Ending.TheVariants.{Finished, CutShort, Malformed, TooLong}
-use Rattle.replay_cli.specs.Show.{IsFrame, IsCutShort, RefusedItem, IsMalformed, IsEnding, AreFrames, reason_name, frame_text, ending_text, frames_text, ShowsFrom, IsShown}
+use Rattle.replay_cli.specs.Show.{IsFrame, IsCutShort, RefusedItem, IsMalformed, IsEnding, AreFrames, ending_text, frames_text, IsShown}
 
 -- One body
 

@@ -1,5 +1,5 @@
 -- Frames that are shown, one after another.
-use Rattle.std.proofs.Common.{◌≡◌, ℕ, ◌+◌, ◌-◌, ◌<◌, ◌≤◌, List, [], ◌∷◌, ◌++◌, length, refl, sym, ap, subst, ◌∙◌, append_assoc, arith, length-append, Option, Some, None}
+use Rattle.std.proofs.Common.{◌≡◌, ℕ, ◌+◌, ◌-◌, ◌<◌, ◌≤◌, List, [], ◌∷◌, ◌++◌, length, refl, sym, ap, subst, ◌∙◌, append_assoc, arith, length-append, Some, None}
 use Rattle.std.specs.Prelude.{◌==◌, Bool}
 use Rattle.jute_core.specs.Frames.{frame}
 use Rattle.zk_frame.proofs.Prefixes.{frame_length}

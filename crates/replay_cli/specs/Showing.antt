@@ -1,5 +1,5 @@
 -- How bytes are shown, frame by frame.
-use Rattle.std.specs.Prelude.{◌≡◌, ℕ, ◌+◌, ◌==◌, List, ◌++◌, Bool, Option, Some, None}
+use Rattle.std.specs.Prelude.{◌≡◌, ℕ, ◌==◌, List, ◌++◌, Bool, Option, Some, None}
 use Rattle.replay_cli.specs.declared.show.Frame.{Frame}
 use Rattle.replay_cli.specs.declared.show.Ending.{Ending}
 use Rattle.replay_cli.specs.declared.show.Next.{Next}

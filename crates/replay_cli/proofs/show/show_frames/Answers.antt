@@ -1,6 +1,4 @@
-use Rattle.std.proofs.Common.{◌≡◌, Some, None, ap, sym, subst, arith}
-use Rattle.std.specs.Option.{option_copied}
-use Rattle.std.specs.Prelude.{string_bytes, ◌-◌, length}
+use Rattle.std.proofs.Common.{arith}
 use Rattle.replay_cli.proofs.ShowLemmas.{same_start, same_more, same_end, shorter}
 use Rattle.replay_cli.proofs.show.show_frames.Goals as goal
 
