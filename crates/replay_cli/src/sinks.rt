@@ -1,6 +1,7 @@
 //! Sinks of bytes, which count their faults.
 
-ghost use Rattle.std.specs.Prelude.{◌≡◌, ℕ, List, [], Option, Some, None};
+ghost use Rattle.std.specs.Prelude.{◌≡◌, ℕ, List, [], Option, Some, None, OnOk};
+ghost use Rattle.std.specs.Io.KnownBytes.{Appends};
 ghost use Rattle.jute_core.specs.Faults.{HasCause, Takes};
 ghost use Rattle.replay_cli.specs.Sinks.{SinkState};
 
@@ -122,7 +123,12 @@ impl<W: Write + Drop> Sink for StdSink<W> {
 
     ghost faults = { λ s. s.faults };
 
-    fn write(&mut self, piece: &[u8]) -> Result<(), Failed> {
+    // The stream itself is handed the whole piece.
+    fn write(&mut self, piece: &[u8]) -> Result<(), Failed>
+        ensures bytes { Takes None None piece.now result }
+        ensures cause { HasCause self.old.faults self.new.faults result }
+        ensures handed { OnOk result (Appends (W.contents self.old.stream) (W.contents self.new.stream) piece.now) }
+    {
         let done = self.stream.write_all(piece).is_ok() && self.stream.flush().is_ok();
         if !done {
             self.faults = self.faults.saturating_add(1);
