@@ -1,1 +1,4 @@
 pub mod Lengths
+pub mod Paths
+pub mod Sets
+pub mod Opening

@@ -1,6 +1,6 @@
 -- What a client is told in place of what a store answered.
-use Rattle.std.specs.Prelude.{◌≡◌, ◌⊎◌, ℕ, ℤ, negsuc, List, length, Option, Some, None}
-use Rattle.path_seal.specs.Sealed.{Keys, Opens}
+use Rattle.std.specs.Prelude.{◌≡◌, ◌⊎◌, ℤ, negsuc, Option, Some, None}
+use Rattle.path_seal.specs.Sealed.{Opens}
 use Rattle.payload_seal.specs.declared.keys.EntryKeys.{EntryKeys}
 use Rattle.request_queue.specs.declared.asked.Asked.{Asked}
 use Rattle.request_queue.specs.declared.asked.Asked.TheVariants as asks
@@ -8,7 +8,7 @@ use Rattle.zk_messages.specs.Refuses.{IsOpen}
 use Rattle.zk_messages.specs.declared.reply.Outcome.{Outcome}
 use Rattle.zk_messages.specs.declared.reply.Outcome.TheVariants as outcomes
 use Rattle.zk_messages.specs.declared.reply.Reply.{Reply}
-use Rattle.reply_rewrite.specs.Children.{AreGoodBefore, IsFirstUnopened, IsFirstDoubled, IsPlainList}
+use Rattle.reply_rewrite.specs.Children.{IsPlainList, IsListCause, IsGoodList}
 use Rattle.reply_rewrite.specs.Names.{IsCreated, IsNotCreated, IsSynced}
 use Rattle.reply_rewrite.specs.Results.{ArePlainResults, IsResultsCause, is_failed}
 use Rattle.reply_rewrite.specs.Stats.{IsPlainStat, HasBadLength, IsPlainContent, HasFlaw, HasOtherLength}
@@ -32,18 +32,6 @@ IsPlain k (asks.Children2 path) (outcomes.Children2 list stored) (outcomes.Child
 IsPlain k (asks.SyncOf path) (outcomes.Path text) (outcomes.Path plain) = IsSynced k.names path text plain
 IsPlain k (asks.Multi ops) (outcomes.Multi stored) (outcomes.Multi plain) = ArePlainResults k.names (is_failed stored) ops stored plain
 IsPlain k asked stored plain = ⊥
-
--- the first thing that is wrong with a list of children
-unfoldable pub IsListCause : Keys → List (List ℕ) → Option (List (List ℕ)) → Cause → Type 0
-IsListCause k path None causes.NullChildren = Unit {0}
-IsListCause k path (Some stored) (causes.Child index) = IsFirstUnopened k path stored index
-IsListCause k path (Some stored) (causes.Doubled index) = IsFirstDoubled k path stored index
-IsListCause k path list cause = ⊥
-
--- nothing is
-unfoldable pub IsGoodList : Keys → List (List ℕ) → Option (List (List ℕ)) → Type 0
-IsGoodList k path None = ⊥
-IsGoodList k path (Some stored) = AreGoodBefore k path stored (length stored)
 
 -- the first thing that is wrong with what the store answered
 unfoldable pub IsCauseOf : EntryKeys → Asked → Outcome → Cause → Type 0

@@ -1,15 +1,21 @@
 -- The names of a node's children.
-use Rattle.std.specs.Prelude.{◌≡◌, ◌↔◌, ◌<◌, ℕ, List, [], length, slice_index_or, Option, Some, None}
-use Rattle.std.specs.List.{Contains}
+use Rattle.std.specs.Prelude.{◌≡◌, ◌⊎◌, ◌↔◌, ◌<◌, ℕ, List, [], ◌∷◌, length, slice_index_or, Option, Some, None}
 use Rattle.std.specs.List.Sorted.{IsStrictlySortedBy}
 use Rattle.std.specs.Cmp.Lexicographic.{slice_cmp}
 use Rattle.std.specs.Ordering.{nat_cmp}
 use Rattle.std.specs.declared.cmp.Ordering.{Ordering}
 use Rattle.path_seal.specs.Sealed.{Keys, OpensName}
+use Rattle.reply_rewrite.specs.declared.finding.Cause.{Cause}
+use Rattle.reply_rewrite.specs.declared.finding.Cause.TheVariants.{NullChildren, Child, Doubled}
 
 -- the first bytes that differ decide, and a beginning stands before what it begins
 abbrev pub byte_order : List ℕ → List ℕ → Ordering
 byte_order = slice_cmp nat_cmp
+
+-- the name is one of these
+abbrev pub IsOneOf : List ℕ → List (List ℕ) → Type 0
+IsOneOf name [] = ⊥
+IsOneOf name (first ∷ rest) = (name ≡ first) ⊎ IsOneOf name rest
 
 -- the stored name at an index
 abbrev pub name_at : List (List ℕ) → ℕ → List ℕ
@@ -31,7 +37,7 @@ pub record AreGoodBefore (k : Keys) (path stored : List (List ℕ)) (place : ℕ
 -- the names are those that the stored ones before this place open to
 abbrev pub AreOpened : Keys → List (List ℕ) → List (List ℕ) → ℕ → List (List ℕ) → Type 0
 AreOpened k path stored place names =
-    (name : List ℕ) → Contains names name ↔ ((index : ℕ) × (index < place) × OpensName k path (name_at stored index) name)
+    (name : List ℕ) → IsOneOf name names ↔ ((index : ℕ) × (index < place) × OpensName k path (name_at stored index) name)
 
 -- the plain names are those that the stored ones open to, in byte order
 pub record ArePlainNames (k : Keys) (path stored plain : List (List ℕ)) : Type 0 where
@@ -53,6 +59,22 @@ pub record IsFirstDoubled (k : Keys) (path stored : List (List ℕ)) (index : �
   pub earlier : StandsEarlier stored index
 
 -- a list, and not null
-abbrev pub IsPlainList : Keys → List (List ℕ) → Option (List (List ℕ)) → Option (List (List ℕ)) → Type 0
+unfoldable pub IsPlainList : Keys → List (List ℕ) → Option (List (List ℕ)) → Option (List (List ℕ)) → Type 0
 IsPlainList k path (Some stored) (Some plain) = ArePlainNames k path stored plain
 IsPlainList k path stored plain = ⊥
+
+-- the first thing that is wrong with the names of a list
+abbrev pub IsNamesCause : Keys → List (List ℕ) → List (List ℕ) → Cause → Type 0
+IsNamesCause k path stored (Child index) = IsFirstUnopened k path stored index
+IsNamesCause k path stored (Doubled index) = IsFirstDoubled k path stored index
+IsNamesCause k path stored cause = ⊥
+
+-- and with a list that may be null
+unfoldable pub IsListCause : Keys → List (List ℕ) → Option (List (List ℕ)) → Cause → Type 0
+IsListCause k path None cause = cause ≡ NullChildren
+IsListCause k path (Some stored) cause = IsNamesCause k path stored cause
+
+-- nothing is
+unfoldable pub IsGoodList : Keys → List (List ℕ) → Option (List (List ℕ)) → Type 0
+IsGoodList k path None = ⊥
+IsGoodList k path (Some stored) = AreGoodBefore k path stored (length stored)

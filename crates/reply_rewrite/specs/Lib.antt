@@ -3,6 +3,7 @@ pub mod Caused
 pub mod Stats
 pub mod Names
 pub mod Children
+pub mod Turns
 pub mod Results
 pub mod Short
 pub mod Admits

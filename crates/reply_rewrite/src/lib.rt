@@ -10,10 +10,11 @@
 #![tactic(auto)]
 
 
-//mod children;
+mod children;
 mod content;
 mod finding;
-//mod multi;
+mod multi;
+mod name_set;
 mod names;
 mod shape;
 mod stat;

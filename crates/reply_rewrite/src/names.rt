@@ -11,6 +11,7 @@ use std::alloc::Global;
 use zk_path::Path;
 
 // Whether a path is the one that was asked for, or the stem that was asked for with ten digits.
+#[tactic(auto, using(crate::proofs::Paths::paths))]
 fn is_made_for(path: &Path, asked: &Path, sequential: bool) -> Result<bool, Memory>
     ensures { IfOk result (λ made. IsTrue made ↔ IsMadeFor asked.now sequential path.now) }
 {
@@ -24,6 +25,7 @@ fn is_made_for(path: &Path, asked: &Path, sequential: bool) -> Result<bool, Memo
 }
 
 /// The plain path of a node that was made. None exactly where it is not the one that was asked for.
+#[tactic(auto, using(crate::proofs::Paths::paths))]
 pub(crate) fn unveil_created(
     alloc: Global,
     keys: &NameKeys,
@@ -35,6 +37,7 @@ pub(crate) fn unveil_created(
     ensures some { IfOk result (λ found. IfSome found (IsCreated keys.now asked.now sequential text.now)) }
     ensures none { IfOk result (λ found. IfNone found (IsNotCreated keys.now asked.now sequential text.now)) }
 {
+    keys.are_keys();
     let Some(path) = open_path(alloc, keys, text.as_str())? else {
         return Ok(None);
     };
@@ -45,6 +48,7 @@ pub(crate) fn unveil_created(
 }
 
 /// The plain path of a node that was synced. None exactly where it is not the one that was asked for.
+#[tactic(auto, using(crate::proofs::Paths::paths))]
 pub(crate) fn unveil_synced(
     alloc: Global,
     keys: &NameKeys,
@@ -55,6 +59,7 @@ pub(crate) fn unveil_synced(
     ensures some { IfOk result (λ found. IfSome found (IsSynced keys.now asked.now text.now)) }
     ensures none { IfOk result (λ found. IfNone found (Opens keys.now text.now asked.now → ⊥)) }
 {
+    keys.are_keys();
     let Some(path) = open_path(alloc, keys, text.as_str())? else {
         return Ok(None);
     };
