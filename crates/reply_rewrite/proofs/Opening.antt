@@ -1,6 +1,7 @@
 -- Names of children, opened one after another.
 use Rattle.std.proofs.Common.{◌≡◌, ◌⊎◌, ◌↔◌, ◌<◌, ◌+◌, ◌≤◌, ℕ, List, [], length, get_or, inl, inr, refl, sym, ap, ◌∙◌, subst, arith}
 use Rattle.zk_path.specs.Paths.{IsComponent}
+use Rattle.std.proofs.lemmas.Bool.{cases_lt}
 use Rattle.path_seal.specs.Sealed.{Keys, AreKeys, SealName, OpensName}
 use Rattle.path_seal.proofs.Apart.{name_apart}
 use Rattle.reply_rewrite.specs.Children.{IsOneOf, name_at, OpensAt, StandsEarlier, AreGoodBefore, AreOpened, IsFirstUnopened, IsFirstDoubled}
