@@ -35,9 +35,8 @@ pub record AreGoodBefore (k : Keys) (path stored : List (List ℕ)) (place : ℕ
   pub apart : (index : ℕ) → index < place → StandsEarlier stored index → ⊥
 
 -- the names are those that the stored ones before this place open to
-abbrev pub AreOpened : Keys → List (List ℕ) → List (List ℕ) → ℕ → List (List ℕ) → Type 0
-AreOpened k path stored place names =
-    (name : List ℕ) → IsOneOf name names ↔ ((index : ℕ) × (index < place) × OpensName k path (name_at stored index) name)
+pub record AreOpened (k : Keys) (path stored : List (List ℕ)) (place : ℕ) (names : List (List ℕ)) : Type 0 where
+  pub those : (name : List ℕ) → IsOneOf name names ↔ ((index : ℕ) × (index < place) × OpensName k path (name_at stored index) name)
 
 -- the plain names are those that the stored ones open to, in byte order
 pub record ArePlainNames (k : Keys) (path stored plain : List (List ℕ)) : Type 0 where

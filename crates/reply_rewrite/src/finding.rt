@@ -1,5 +1,7 @@
 //! What was wrong with a reply.
 
+ghost use Rattle.std.specs.Prelude.{◌≡◌};
+
 use jute_core::Memory;
 use payload_seal::Flaw;
 
