@@ -7,7 +7,8 @@ use Rattle.std.specs.Bool.{Decides}
 use Rattle.std.specs.Str.{bytes_eq}
 use Rattle.path_seal.specs.Sealed.{Keys, AreKeys, SealName, OpensName}
 use Rattle.path_seal.proofs.Apart.{name_apart}
-use Rattle.reply_rewrite.specs.Children.{IsOneOf, name_at, OpensAt, StandsEarlier, AreGoodBefore, AreOpened, IsFirstUnopened, IsFirstDoubled}
+use Rattle.reply_rewrite.specs.Children.{IsOneOf, name_at, OpensAt, StandsEarlier, AreGoodBefore, AreOpened, ArePlainNames, IsFirstUnopened, IsFirstDoubled, byte_order}
+use Rattle.std.specs.List.Sorted.{IsStrictlySortedBy}
 use Rattle.reply_rewrite.specs.Turns.{IsNew, IsKnown}
 
 pub one_name : (k : Keys) (path : List (List ℕ)) (stored n m : List ℕ) → AreKeys k → OpensName k path stored n → OpensName k path stored m → n ≡ m
@@ -108,4 +109,8 @@ is_known k path old stored name bytes added is same h e =
     by_test (yes one) = one
     by_test (no other) = absurd (false≢true (sym same ∙ is.1 other))
 
-pub ruleset opening = (none_good, none_opened, is_new, is_known)
+pub plain_names : (k : Keys) (path stored names plain : List (List ℕ)) → AreGoodBefore k path stored (length stored) → AreOpened k path stored (length stored) names → plain ≡ names → IsStrictlySortedBy byte_order plain → ArePlainNames k path stored plain
+plain_names k path stored names plain good opened e up =
+    record { good = good; opened = subst (λ (l : List (List ℕ)). AreOpened k path stored (length stored) l) (sym e) opened; ascending = up }
+
+pub ruleset opening = (none_good, none_opened, is_new, is_known, plain_names)

@@ -76,7 +76,7 @@ fn opened_set(
 }
 
 /// The plain names of children, in byte order. Takes time n log n for n names, each of which is opened once.
-#[tactic(auto, using(crate::proofs::Opening::opening))]
+#[tactic(auto, using(crate::proofs::Opening::opening), unfolding(crate::specs::Children::IsPlainList, crate::specs::Children::IsListCause))]
 pub(crate) fn unveil_children(
     alloc: Global,
     keys: &NameKeys,
