@@ -2,3 +2,4 @@ pub mod Lengths
 pub mod Paths
 pub mod Sets
 pub mod Opening
+pub mod Multis

@@ -4,6 +4,7 @@ ghost use Rattle.std.specs.Prelude.{◌≡◌};
 
 use jute_core::Memory;
 use payload_seal::Flaw;
+use std::alloc::{AllocError, AllocFailed};
 
 /// What is wrong with a reply of a store: the first of these that holds.
 #[derive(Clone, Copy, Debug, Drop, PartialEq, Eq)]
@@ -62,6 +63,26 @@ impl From<Memory> for NotPlain {
     ghost from_gives = { λ _ e. e ≡ OutOfMemory };
 
     fn from(_: Memory) -> NotPlain {
+        NotPlain::Memory
+    }
+}
+
+impl From<AllocError> for NotPlain {
+    ghost use Rattle.reply_rewrite.specs.declared.finding.NotPlain.TheVariants.{Memory as OutOfMemory};
+
+    ghost from_gives = { λ _ e. e ≡ OutOfMemory };
+
+    fn from(_: AllocError) -> NotPlain {
+        NotPlain::Memory
+    }
+}
+
+impl<T: Drop> From<AllocFailed<T>> for NotPlain {
+    ghost use Rattle.reply_rewrite.specs.declared.finding.NotPlain.TheVariants.{Memory as OutOfMemory};
+
+    ghost from_gives = { λ _ e. e ≡ OutOfMemory };
+
+    fn from(_: AllocFailed<T>) -> NotPlain {
         NotPlain::Memory
     }
 }
