@@ -3,3 +3,4 @@ pub mod Paths
 pub mod Sets
 pub mod Opening
 pub mod Multis
+pub mod Answering

@@ -16,9 +16,10 @@ mod finding;
 mod multi;
 mod name_set;
 mod names;
+mod rows;
 mod shape;
 mod stat;
-//mod unveiling;
+mod unveiling;
 
 pub use finding::{Cause, Finding};
 pub use shape::shape_of;

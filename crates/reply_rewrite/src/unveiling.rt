@@ -1,0 +1,1 @@
+//! What a client is told in place of what a store answered.
