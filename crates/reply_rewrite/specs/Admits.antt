@@ -15,6 +15,16 @@ use Rattle.reply_rewrite.specs.Stats.{IsPlainStat, HasBadLength, IsPlainContent,
 use Rattle.reply_rewrite.specs.declared.finding.Cause.{Cause}
 use Rattle.reply_rewrite.specs.declared.finding.Cause.TheVariants as causes
 
+-- the proxy refused the request
+abbrev pub IsRefused : Asked → Type 0
+IsRefused (asks.Refused code) = Unit {0}
+IsRefused asked = ⊥
+
+-- the store answered with an error
+abbrev pub IsFailure : Outcome → Type 0
+IsFailure (outcomes.Error code) = Unit {0}
+IsFailure stored = ⊥
+
 -- the code of an answer that is none to the request: marshalling error
 abbrev pub marshalling_error : ℤ
 marshalling_error = negsuc 4
