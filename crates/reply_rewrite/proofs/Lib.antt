@@ -4,3 +4,4 @@ pub mod Sets
 pub mod Opening
 pub mod Multis
 pub mod Answering
+pub mod Told

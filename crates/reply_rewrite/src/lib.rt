@@ -23,5 +23,5 @@ mod unveiling;
 
 pub use finding::{Cause, Finding};
 pub use shape::shape_of;
-//pub use unveiling::unveil_reply;
+pub use unveiling::unveil_reply;
 

@@ -62,3 +62,59 @@ fn unveil_done(
         _ => unreachable!(),
     }
 }
+
+// What a client is told, and what was wrong with the answer.
+#[tactic(auto, using(crate::proofs::Told::told))]
+fn unveil_outcome(
+    alloc: Global,
+    keys: &EntryKeys,
+    asked: &Asked,
+    stored: Outcome,
+) -> Result<(Outcome, Option<Cause>), Memory>
+    requires shape { HasShape (shape_for asked.now) stored }
+    requires path { HasShortPath asked.now }
+    requires short { HasShortParts stored }
+    ensures { IfOk result (λ answer. AdmitsOutcome keys.now asked.now stored answer.0 answer.1) }
+{
+    if let Asked::Refused { code } = asked {
+        return Ok((Outcome::Error { code: *code }, None));
+    }
+    if let Outcome::Error { code } = stored {
+        return Ok((Outcome::Error { code }, None));
+    }
+    match unveil_done(alloc, keys, asked, stored) {
+        Ok(plain) => Ok((plain, None)),
+        Err(NotPlain::Caused(cause)) => {
+            let code = MARSHALLING_ERROR;
+            Ok((Outcome::Error { code }, Some(cause)))
+        }
+        Err(NotPlain::Memory) => Err(Memory),
+    }
+}
+
+/// The reply that a client is told in place of a store's, and what was wrong with that one.
+///
+/// The reply answers the request for which `asked` was kept, and has its shape or is an error. A reply with a cause becomes
+/// an error of code -5 with the same xid and zxid; an error of the store is passed on; the answer to a refused request
+/// becomes the code of the refusal. Each text and buffer has at most 134,217,728 bytes, and each list fewer than
+/// 4,294,967,296 items. Linear in the reply, but for the time n log n to order n children, and for what opening a path costs.
+///
+/// # Errors
+/// Want of memory alone.
+pub fn unveil_reply(
+    alloc: Global,
+    keys: &EntryKeys,
+    asked: &Asked,
+    reply: Reply,
+) -> Result<(Reply, Option<Cause>), Memory>
+    requires shape { HasShape (shape_for asked.now) reply.outcome }
+    requires asked { IsAsked asked.now }
+    requires path { HasShortPath asked.now }
+    requires short { HasShortParts reply.outcome }
+    ensures admitted { IfOk result (λ answer. Admits keys.now asked.now reply answer.0 answer.1) }
+{
+    let Reply { xid, zxid, outcome } = reply;
+    let (outcome, cause) = unveil_outcome(alloc, keys, asked, outcome)?;
+    let reply = Reply { xid, zxid, outcome };
+    Ok((reply, cause))
+}
