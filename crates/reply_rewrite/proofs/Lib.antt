@@ -5,3 +5,4 @@ pub mod Opening
 pub mod Multis
 pub mod Answering
 pub mod Told
+pub mod OneRow

@@ -9,6 +9,8 @@
 //! Read [`Cause`] first, then [`unveil_reply`], then the law at the end of this file.
 #![tactic(auto)]
 
+ghost use Rattle.reply_rewrite.specs.Laws.{IsAdmittedOnce};
+
 
 mod children;
 mod content;
@@ -25,3 +27,8 @@ pub use finding::{Cause, Finding};
 pub use shape::shape_of;
 pub use unveiling::unveil_reply;
 
+
+/// The law that for a request and a reply of its shape exactly one reply is passed on, with exactly one cause or none.
+pub fn admitted_once()
+    ensures { IsAdmittedOnce }
+{}
