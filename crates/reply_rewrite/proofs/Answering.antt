@@ -9,6 +9,7 @@ use Rattle.zk_records.specs.declared.acl.Acl.{Acl}
 use Rattle.zk_records.specs.declared.stat.Stat.{Stat}
 use Rattle.reply_rewrite.specs.Admits.{IsCauseOf}
 use Rattle.reply_rewrite.specs.Caused.{IsCausedBy}
+use Rattle.reply_rewrite.proofs.OneRow.{good_list}
 use Rattle.reply_rewrite.specs.Children.{IsPlainList, IsGoodList, IsListCause}
 use Rattle.reply_rewrite.specs.Stats.{IsLengthCause, IsContentCause}
 use Rattle.reply_rewrite.specs.declared.finding.Cause.{Cause}
@@ -44,13 +45,6 @@ acl_cause k path acls stored is c h = absurd h
 
 pub acl_caused : (k : EntryKeys) (path : List (List ℕ)) (acls : Option (List Acl)) (stored : Stat) (e : NotPlain) → IsCausedBy (IsLengthCause path stored) e → IsOpen acls → IsCausedBy (IsCauseOf k (asks.AclOf path) (outcomes.Acls acls stored)) e
 acl_caused k path acls stored e h is = caused_as (IsLengthCause path stored) (IsCauseOf k (asks.AclOf path) (outcomes.Acls acls stored)) e (acl_cause k path acls stored is) h
-
-good_list : (k : Keys) (path : List (List ℕ)) (list names : Option (List (List ℕ))) → IsPlainList k path list names → IsGoodList k path list
-unfolding IsPlainList IsGoodList
-good_list k path None None h = absurd h
-good_list k path None (Some plain) h = absurd h
-good_list k path (Some stored) None h = absurd h
-good_list k path (Some stored) (Some plain) h = h.good
 
 children2_cause : (k : EntryKeys) (path : List (List ℕ)) (list names : Option (List (List ℕ))) (stored : Stat) → IsPlainList k.names path list names → (c : Cause) → IsLengthCause path stored c → IsCauseOf k (asks.Children2 path) (outcomes.Children2 list stored) c
 unfolding IsCauseOf

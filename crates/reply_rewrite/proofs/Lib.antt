@@ -6,3 +6,5 @@ pub mod Multis
 pub mod Answering
 pub mod Told
 pub mod OneRow
+pub mod OneResults
+pub mod Once

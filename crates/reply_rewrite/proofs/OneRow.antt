@@ -126,6 +126,13 @@ one_names_cause k path stored c d x y = absurd x
 
 -- ---- lists of children
 
+pub good_list : (k : Keys) (path : List (List ℕ)) (list names : Option (List (List ℕ))) → IsPlainList k path list names → IsGoodList k path list
+unfolding IsPlainList IsGoodList
+good_list k path None None h = absurd h
+good_list k path None (Some plain) h = absurd h
+good_list k path (Some stored) None h = absurd h
+good_list k path (Some stored) (Some plain) h = h.good
+
 pub one_list : (k : Keys) (path : List (List ℕ)) (stored a b : Option (List (List ℕ))) → IsPlainList k path stored a → IsPlainList k path stored b → a ≡ b
 unfolding IsPlainList
 one_list k path (Some stored) (Some a) (Some b) x y = ap Some (one_names k path stored a b x y)

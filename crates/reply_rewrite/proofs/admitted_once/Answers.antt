@@ -1,5 +1,5 @@
-use Rattle.reply_rewrite.proofs.OneRow.{one_list_cause, one_list, content_or_other, stat_or_bad, one_created}
+use Rattle.reply_rewrite.proofs.Once.{at_most_one}
 use Rattle.reply_rewrite.proofs.admitted_once.Goals as goal
 
 pub returns : goal.returns
-returns c = ?
+returns c = record { at_most_one = at_most_one; at_least_one = ? }
