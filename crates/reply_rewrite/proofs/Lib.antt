@@ -8,3 +8,5 @@ pub mod Told
 pub mod OneRow
 pub mod OneResults
 pub mod Once
+pub mod Decided
+pub mod Judging

@@ -53,22 +53,27 @@ none_good k path stored = record { opens = λ index h. absurd (omega (arith, h))
 pub none_opened : (k : Keys) (path stored : List (List ℕ)) → AreOpened k path stored 0 []
 none_opened k path stored = record { those = λ name. (λ h. absurd h, λ h. omega (arith, h.1)) }
 
-more_good : (k : Keys) (path stored old new : List (List ℕ)) (i : ℕ) → AreGoodBefore k path stored i → AreOpened k path stored i old → IsNew k path (name_at stored i) old new → AreGoodBefore k path stored (i + 1)
-more_good k path stored old new i good opened h = record { opens = opens; apart = apart }
+pub good_after : (k : Keys) (path stored : List (List ℕ)) (i : ℕ) → AreGoodBefore k path stored i → OpensAt k path stored i → (StandsEarlier stored i → ⊥) → AreGoodBefore k path stored (i + 1)
+good_after k path stored i good h alone = record { opens = opens; apart = apart }
   where
     opens_by : (j : ℕ) → (j < i) ⊎ (j ≡ i) → OpensAt k path stored j
     opens_by j (inl l) = good.opens j l
-    opens_by j (inr e) = subst (λ (n : ℕ). OpensAt k path stored n) (sym e) (h.name, h.opened)
+    opens_by j (inr e) = subst (λ (n : ℕ). OpensAt k path stored n) (sym e) h
     opens : (j : ℕ) → j < i + 1 → OpensAt k path stored j
     opens j l = opens_by j (last_or_before i j l)
     apart_by : (j : ℕ) → (j < i) ⊎ (j ≡ i) → StandsEarlier stored j → ⊥
     apart_by j (inl l) e = good.apart j l e
-    apart_by j (inr same) e =
-        h.unknown ((opened.those h.name).1 (e.0, subst (λ (n : ℕ). e.0 < n) same e.1, opens_along k path _ _ h.name (sym (e.2 ∙ ap (λ (n : ℕ). name_at stored n) same)) h.opened))
+    apart_by j (inr same) e = alone (subst (λ (n : ℕ). StandsEarlier stored n) same e)
     apart : (j : ℕ) → j < i + 1 → StandsEarlier stored j → ⊥
     apart j l e = apart_by j (last_or_before i j l) e
 
-more_opened : (k : Keys) (path stored old new : List (List ℕ)) (i : ℕ) → AreKeys k → AreOpened k path stored i old → IsNew k path (name_at stored i) old new → AreOpened k path stored (i + 1) new
+more_good : (k : Keys) (path stored old new : List (List ℕ)) (i : ℕ) → AreGoodBefore k path stored i → AreOpened k path stored i old → IsNew k path (name_at stored i) old new → AreGoodBefore k path stored (i + 1)
+more_good k path stored old new i good opened h = good_after k path stored i good (h.name, h.opened) alone
+  where
+    alone : StandsEarlier stored i → ⊥
+    alone e = h.unknown ((opened.those h.name).1 (e.0, e.1, opens_along k path _ _ h.name (sym e.2) h.opened))
+
+pub more_opened : (k : Keys) (path stored old new : List (List ℕ)) (i : ℕ) → AreKeys k → AreOpened k path stored i old → IsNew k path (name_at stored i) old new → AreOpened k path stored (i + 1) new
 more_opened k path stored old new i keys opened h =
     record { those = λ name. (λ one. from name ((h.names name).0 one), λ at. (h.names name).1 (to name at.0 (last_or_before i at.0 at.1) at.2)) }
   where

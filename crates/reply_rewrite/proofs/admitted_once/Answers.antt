@@ -1,4 +1,5 @@
 use Rattle.reply_rewrite.proofs.Once.{at_most_one}
+use Rattle.reply_rewrite.proofs.Judging.{list_judged}
 use Rattle.reply_rewrite.proofs.admitted_once.Goals as goal
 
 pub returns : goal.returns
