@@ -29,7 +29,7 @@ stat_cause k path stored c h = absurd h
 pub stat_caused : (k : EntryKeys) (path : List (List ℕ)) (stored : Stat) (e : NotPlain) → IsCausedBy (IsLengthCause path stored) e → IsCausedBy (IsCauseOf k (asks.StatOf path) (outcomes.Stat stored)) e
 stat_caused k path stored e h = caused_as (IsLengthCause path stored) (IsCauseOf k (asks.StatOf path) (outcomes.Stat stored)) e (stat_cause k path stored) h
 
-content_cause : (k : EntryKeys) (path : List (List ℕ)) (payload : Option (List ℕ)) (stored : Stat) (c : Cause) → IsContentCause k.payloads path payload stored c → IsCauseOf k (asks.Content path) (outcomes.Content payload stored) c
+pub content_cause : (k : EntryKeys) (path : List (List ℕ)) (payload : Option (List ℕ)) (stored : Stat) (c : Cause) → IsContentCause k.payloads path payload stored c → IsCauseOf k (asks.Content path) (outcomes.Content payload stored) c
 unfolding IsCauseOf
 content_cause k path payload stored (causes.Payload flaw) h = h
 content_cause k path payload stored (causes.Length told) h = h
@@ -59,7 +59,7 @@ unfolding IsListCause
 no_length k path None told h = cc
 no_length k path (Some stored) told h = h
 
-list_cause : (k : EntryKeys) (path : List (List ℕ)) (list : Option (List (List ℕ))) (stored : Stat) (c : Cause) → IsListCause k.names path list c → IsCauseOf k (asks.Children2 path) (outcomes.Children2 list stored) c
+pub list_cause : (k : EntryKeys) (path : List (List ℕ)) (list : Option (List (List ℕ))) (stored : Stat) (c : Cause) → IsListCause k.names path list c → IsCauseOf k (asks.Children2 path) (outcomes.Children2 list stored) c
 unfolding IsCauseOf
 list_cause k path list stored (causes.Length told) h = absurd (no_length k.names path list told h)
 list_cause k path list stored c h = h

@@ -1,7 +1,7 @@
 -- What opens and what is legal can be decided: a name is shorter than what it is sealed to, so that there are only so many.
 use lib.Dec.{T}
 use lib.Signed.{le_z}
-use Rattle.std.proofs.Common.{◌≡◌, ◌≢◌, ◌⊎◌, ◌<◌, ◌≤◌, ◌+◌, ℕ, zero, suc, ℤ, pos, negsuc, Bool, true, false, List, [], ◌∷◌, ◌++◌, length, inl, inr, refl, sym, ap, ◌∙◌, subst, arith, All, codes}
+use Rattle.std.proofs.Common.{◌≡◌, ◌≢◌, ◌⊎◌, ◌<◌, ◌≤◌, ◌+◌, ℕ, zero, suc, ℤ, pos, negsuc, Bool, true, false, List, [], ◌∷◌, ◌++◌, length, inl, inr, refl, sym, ap, ◌∙◌, subst, arith, All, codes, Option, Some, None}
 use Rattle.std.specs.Prelude.{◌≤ℤ◌, ◌-ℤ◌}
 use Rattle.std.proofs.lemmas.Bool.{cases_lt, cases_eq}
 use Rattle.std.proofs.lemmas.List.{get_or_default}
@@ -15,6 +15,8 @@ use Rattle.zk_path.specs.Paths.{IsForbidden, IsComponent, IsPath, text_of}
 use Rattle.zk_path.specs.Numbers.{IsStemOf}
 use Rattle.path_seal.specs.Sealed.{Keys, SealName, SealPath, Opens, OpensName}
 use Rattle.path_seal.proofs.NameBytes.{bytes_utf8, length-SealName}
+use Rattle.zk_messages.specs.Refuses.{IsOpen, open_acl}
+use Rattle.zk_records.specs.declared.acl.Acl.{Acl}
 use Rattle.reply_rewrite.proofs.Opening.{dec_same}
 use Rattle.reply_rewrite.specs.Children.{name_at, OpensAt, StandsEarlier}
 use Rattle.reply_rewrite.specs.Names.{IsCreated, IsNotCreated}
@@ -245,3 +247,31 @@ from_long n p stored (no f) = inr (λ plain h. f h.0)
 pub length_judged : (path : List (List ℕ)) (stored : ℤ) → ((plain : ℤ) × IsPlainLength path stored plain) ⊎ ((plain : ℤ) → IsPlainLength path stored plain → ⊥)
 length_judged [] stored = from_root stored (dec_integer stored (pos 0))
 length_judged (n ∷ p) stored = from_long n p stored (dec_long stored)
+
+-- ---- the one list of ACLs
+
+acl_is_open : (a : Acl) → (a.perms ≡ pos 31) × ((a.scheme ≡ codes "world") × (a.id ≡ codes "anyone")) → a ≡ open_acl
+acl_is_open a h = let perms = h.0 in let scheme = h.1.0 in let id = h.1.1 in (λ i. record { perms = perms i; scheme = scheme i; id = id i })
+
+dec_open_acl : (a : Acl) → Dec (a ≡ open_acl)
+dec_open_acl a =
+    dec_from (acl_is_open a) (λ e. (ap (λ (x : Acl). x.perms) e, (ap (λ (x : Acl). x.scheme) e, ap (λ (x : Acl). x.id) e)))
+    (dec_both (dec_integer a.perms (pos 31)) (dec_both (dec_same a.scheme (codes "world")) (dec_same a.id (codes "anyone"))))
+
+head_of : Option (List Acl) → Acl
+head_of (Some (a ∷ rest)) = a
+head_of list = open_acl
+
+count_of : Option (List Acl) → ℕ
+count_of None = 0
+count_of (Some list) = length list
+
+other_count : (x y : Option (List Acl)) → x ≡ y → count_of x ≡ count_of y
+other_count x y e = ap count_of e
+
+pub dec_open_acls : (list : Option (List Acl)) → Dec (IsOpen list)
+unfolding head_of count_of
+dec_open_acls None = no (λ e. cc)
+dec_open_acls (Some []) = no (λ e. omega (arith, other_count _ _ e))
+dec_open_acls (Some (a ∷ [])) = dec_from (ap (λ (x : Acl). Some (x ∷ []))) (ap head_of) (dec_open_acl a)
+dec_open_acls (Some (a ∷ (b ∷ rest))) = no (λ e. omega (arith, other_count _ _ e))

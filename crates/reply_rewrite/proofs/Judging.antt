@@ -16,6 +16,7 @@ use Rattle.reply_rewrite.proofs.OneResults.{same_length}
 use Rattle.reply_rewrite.proofs.Opening.{none_good, none_opened, good_after, more_opened}
 use Rattle.reply_rewrite.proofs.Sets.{inserted_name, inserted_ascends}
 use Rattle.reply_rewrite.specs.Children.{IsOneOf, byte_order, name_at, OpensAt, StandsEarlier, AreGoodBefore, AreOpened, ArePlainNames, IsFirstUnopened, IsFirstDoubled, IsPlainList, IsListCause, IsNamesCause}
+use Rattle.reply_rewrite.specs.Names.{IsCreated, IsNotCreated}
 use Rattle.reply_rewrite.specs.Results.{is_failed, HasKind, IsPlainResult, ArePlainResults, IsOtherCreated, IsOtherLength, IsCauseAt, IsFirstCause, IsResultsCause}
 use Rattle.reply_rewrite.specs.Stats.{IsPlainLength, IsPlainStat, HasBadLength, IsPlainContent, HasFlaw, HasOtherLength, IsContentCause}
 use Rattle.reply_rewrite.specs.Turns.{IsNew}
@@ -34,7 +35,7 @@ stat_judged path stored = by_length (length_judged path stored.length)
     by_length (inl h) = inl (stat_with path stored h.0 h.1)
     by_length (inr f) = inr (record { is_told = refl; unfit = f })
 
-abbrev ContentOrCause : List ℕ → List (List ℕ) → Option (List ℕ) → Stat → Type 0
+abbrev pub ContentOrCause : List ℕ → List (List ℕ) → Option (List ℕ) → Stat → Type 0
 ContentOrCause key path payload stored =
     ((content : Option (List ℕ)) × (plain : Stat) × IsPlainContent key path payload stored content plain) ⊎ ((c : Cause) × IsContentCause key path payload stored c)
 
@@ -99,10 +100,57 @@ list_judged k path (Some stored) keys = by_names (names_judged k path stored (le
 ResultOrCause : Keys → Bool → ℕ → AskedOp → OpResult → Type 0
 ResultOrCause k failed i op s = ((plain : OpResult) × IsPlainResult k failed op s plain) ⊎ ((c : Cause) × IsCauseAt k failed i op s c)
 
-created_result : (k : Keys) (i : ℕ) (path : List (List ℕ)) (sequential : Bool) (text : List ℕ) → ResultOrCause k false i (ops.Create path sequential) (op_results.Created text)
+created_result : (k : Keys) (i : ℕ) (path : List (List ℕ)) (sequential : Bool) (text : List ℕ) → ((plain : List ℕ) × IsCreated k path sequential text plain) ⊎ IsNotCreated k path sequential text → ResultOrCause k false i (ops.Create path sequential) (op_results.Created text)
 unfolding ResultOrCause IsPlainResult IsCauseAt IsOtherCreated
-created_result k i path sequential text = by_path (created_judged k path sequential text)
+created_result k i path sequential text (inl h) = inl (op_results.Created h.0, h.1)
+created_result k i path sequential text (inr f) = inr (causes.MultiCreated i, (refl, f))
+
+changed_result : (k : Keys) (i : ℕ) (path : List (List ℕ)) (stored : Stat) → ((plain : ℤ) × IsPlainLength path stored.length plain) ⊎ ((plain : ℤ) → IsPlainLength path stored.length plain → ⊥) → ResultOrCause k false i (ops.SetContent path) (op_results.Changed stored)
+unfolding ResultOrCause IsPlainResult IsCauseAt IsOtherLength
+changed_result k i path stored (inl h) = let plain = stat_with path stored h.0 h.1 in inl (op_results.Changed plain.0, plain.1)
+changed_result k i path stored (inr f) = inr (causes.MultiLength i, (refl, f))
+
+other_kind : (k : Keys) (failed : Bool) (i : ℕ) (op : AskedOp) (s : OpResult) → (HasKind failed op s → ⊥) → ResultOrCause k failed i op s
+unfolding ResultOrCause IsCauseAt
+other_kind k failed i op s f = inr (causes.MultiKind i, (refl, f))
+
+result_judged : (k : Keys) (failed : Bool) (i : ℕ) (op : AskedOp) (s : OpResult) → ResultOrCause k failed i op s
+unfolding ResultOrCause IsPlainResult HasKind
+result_judged k true i op (op_results.Error code) = inl (op_results.Error code, refl)
+result_judged k true i op (op_results.Created text) = other_kind k true i op (op_results.Created text) (λ h. h)
+result_judged k true i op op_results.Deleted = other_kind k true i op op_results.Deleted (λ h. h)
+result_judged k true i op (op_results.Changed stored) = other_kind k true i op (op_results.Changed stored) (λ h. h)
+result_judged k true i op op_results.Checked = other_kind k true i op op_results.Checked (λ h. h)
+result_judged k false i (ops.Create path sequential) (op_results.Created text) = created_result k i path sequential text (created_judged k path sequential text)
+result_judged k false i ops.Delete op_results.Deleted = inl (op_results.Deleted, tt)
+result_judged k false i (ops.SetContent path) (op_results.Changed stored) = changed_result k i path stored (length_judged path stored.length)
+result_judged k false i ops.Check op_results.Checked = inl (op_results.Checked, tt)
+result_judged k false i op s = other_kind k false i op s (λ h. h)
+
+ResultsOrCause : Keys → Bool → ℕ → List AskedOp → List OpResult → Type 0
+ResultsOrCause k failed i ops stored = ((plain : List OpResult) × ArePlainResults k failed ops stored plain) ⊎ ((c : Cause) × IsFirstCause k failed i ops stored c)
+
+first_and_rest : (k : Keys) (failed : Bool) (i : ℕ) (op : AskedOp) (ops : List AskedOp) (s : OpResult) (stored : List OpResult) → ResultOrCause k failed i op s → ResultsOrCause k failed (i + 1) ops stored → ResultsOrCause k failed i (op ∷ ops) (s ∷ stored)
+unfolding ResultOrCause ResultsOrCause ArePlainResults IsFirstCause
+first_and_rest k failed i op ops s stored (inr c) rest = inr (c.0, inl c.1)
+first_and_rest k failed i op ops s stored (inl h) (inr c) = inr (c.0, inr (h.0, h.1, c.1))
+first_and_rest k failed i op ops s stored (inl h) (inl rest) = inl (h.0 ∷ rest.0, (h.1, rest.1))
+
+each_judged : (k : Keys) (failed : Bool) (i : ℕ) (ops : List AskedOp) (stored : List OpResult) → length ops ≡ length stored → ResultsOrCause k failed i ops stored
+unfolding ResultsOrCause ArePlainResults
+each_judged k failed i [] [] e = inl ([], tt)
+each_judged k failed i [] (s ∷ stored) e = absurd (omega (arith, e))
+each_judged k failed i (op ∷ ops) [] e = absurd (omega (arith, e))
+each_judged k failed i (op ∷ ops) (s ∷ stored) e = first_and_rest k failed i op ops s stored (result_judged k failed i op s) (each_judged k failed (i + 1) ops stored (omega (arith, e)))
+
+counted : (k : Keys) (ops : List AskedOp) (stored : List OpResult) → Dec (length ops ≡ length stored) → ((plain : List OpResult) × ArePlainResults k (is_failed stored) ops stored plain) ⊎ ((c : Cause) × IsResultsCause k ops stored c)
+unfolding ResultsOrCause
+counted k ops stored (no f) = inr (causes.MultiCount (length ops) (length stored), inl (f, refl))
+counted k ops stored (yes e) = by_each (each_judged k (is_failed stored) 0 ops stored e)
   where
-    by_path : _ → ((plain : OpResult) × IsPlainResult k false (ops.Create path sequential) (op_results.Created text) plain) ⊎ ((c : Cause) × IsCauseAt k false i (ops.Create path sequential) (op_results.Created text) c)
-    by_path (inl h) = inl (op_results.Created h.0, h.1)
-    by_path (inr f) = inr (causes.MultiCreated i, (refl, f))
+    by_each : ((plain : List OpResult) × ArePlainResults k (is_failed stored) ops stored plain) ⊎ ((c : Cause) × IsFirstCause k (is_failed stored) 0 ops stored c) → ((plain : List OpResult) × ArePlainResults k (is_failed stored) ops stored plain) ⊎ ((c : Cause) × IsResultsCause k ops stored c)
+    by_each (inl h) = inl h
+    by_each (inr c) = inr (c.0, inr (e, c.1))
+
+pub results_judged : (k : Keys) (ops : List AskedOp) (stored : List OpResult) → ((plain : List OpResult) × ArePlainResults k (is_failed stored) ops stored plain) ⊎ ((c : Cause) × IsResultsCause k ops stored c)
+results_judged k ops stored = counted k ops stored (dec_number (length ops) (length stored))

@@ -10,3 +10,4 @@ pub mod OneResults
 pub mod Once
 pub mod Decided
 pub mod Judging
+pub mod Some

@@ -12,4 +12,4 @@ use Rattle.reply_rewrite.specs.Shapes.{shape_for}
 -- for a request and a reply of its shape exactly one reply is passed on, with exactly one cause or none
 pub record IsAdmittedOnce : Type 0 where
   pub at_most_one : (k : EntryKeys) (asked : Asked) (stored a b : Reply) (c d : Option Cause) → AreKeys k.names → Admits k asked stored a c → Admits k asked stored b d → (a ≡ b) × (c ≡ d)
-  pub at_least_one : (k : EntryKeys) (asked : Asked) (stored : Reply) → HasShape (shape_for asked) stored.outcome → (told : Reply) × (cause : Option Cause) × Admits k asked stored told cause
+  pub at_least_one : (k : EntryKeys) (asked : Asked) (stored : Reply) → AreKeys k.names → HasShape (shape_for asked) stored.outcome → (told : Reply) × (cause : Option Cause) × Admits k asked stored told cause
