@@ -1,5 +1,5 @@
 -- Answers whose Stat has a bad length, and lists of children.
-use Rattle.std.proofs.Common.{◌≡◌, ℕ, ℤ, List, Option, Some, None}
+use Rattle.std.proofs.Common.{ℕ, ℤ, List, Option, Some, None}
 use Rattle.path_seal.specs.Sealed.{Keys}
 use Rattle.payload_seal.specs.declared.keys.EntryKeys.{EntryKeys}
 use Rattle.request_queue.specs.declared.asked.Asked.TheVariants as asks
@@ -10,7 +10,7 @@ use Rattle.zk_records.specs.declared.stat.Stat.{Stat}
 use Rattle.reply_rewrite.specs.Admits.{IsCauseOf}
 use Rattle.reply_rewrite.specs.Caused.{IsCausedBy}
 use Rattle.reply_rewrite.proofs.OneRow.{good_list}
-use Rattle.reply_rewrite.specs.Children.{IsPlainList, IsGoodList, IsListCause}
+use Rattle.reply_rewrite.specs.Children.{IsPlainList, IsListCause}
 use Rattle.reply_rewrite.specs.Stats.{IsLengthCause, IsContentCause}
 use Rattle.reply_rewrite.specs.declared.finding.Cause.{Cause}
 use Rattle.reply_rewrite.specs.declared.finding.Cause.TheVariants as causes

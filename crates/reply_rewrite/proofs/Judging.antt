@@ -1,8 +1,8 @@
 -- Each part of an answer has a plain form or a cause.
-use Rattle.std.proofs.Common.{◌≡◌, ◌⊎◌, ◌<◌, ◌≤◌, ◌+◌, ℕ, zero, suc, ℤ, pos, Bool, true, false, List, [], ◌∷◌, length, Option, Some, None, inl, inr, refl, sym, ap, ◌∙◌, subst, arith, add-one}
+use Rattle.std.proofs.Common.{◌≡◌, ◌⊎◌, ◌<◌, ◌≤◌, ◌+◌, ℕ, zero, suc, ℤ, pos, Bool, true, false, List, [], ◌∷◌, length, Option, Some, None, inl, inr, refl, sym, ◌∙◌, arith, add-one}
 use Rattle.std.specs.BTreeSet.{insert_key}
 use Rattle.std.specs.List.Sorted.{IsStrictlySortedBy}
-use Rattle.path_seal.specs.Sealed.{Keys, AreKeys, Opens, OpensName}
+use Rattle.path_seal.specs.Sealed.{Keys, AreKeys}
 use Rattle.payload_seal.proofs.Judged.{judged_once}
 use Rattle.payload_seal.specs.Payload.{Accepts, content_of}
 use Rattle.payload_seal.specs.declared.opening.Flaw.{Flaw}
@@ -12,13 +12,12 @@ use Rattle.zk_messages.specs.declared.reply.OpResult.{OpResult}
 use Rattle.zk_messages.specs.declared.reply.OpResult.TheVariants as op_results
 use Rattle.zk_records.specs.declared.stat.Stat.{Stat}
 use Rattle.reply_rewrite.proofs.Decided.{created_judged, length_judged, dec_length, dec_opens_at, dec_earlier, dec_number}
-use Rattle.reply_rewrite.proofs.OneResults.{same_length}
 use Rattle.reply_rewrite.proofs.Opening.{none_good, none_opened, good_after, more_opened}
 use Rattle.reply_rewrite.proofs.Sets.{inserted_name, inserted_ascends}
-use Rattle.reply_rewrite.specs.Children.{IsOneOf, byte_order, name_at, OpensAt, StandsEarlier, AreGoodBefore, AreOpened, ArePlainNames, IsFirstUnopened, IsFirstDoubled, IsPlainList, IsListCause, IsNamesCause}
+use Rattle.reply_rewrite.specs.Children.{IsOneOf, byte_order, name_at, OpensAt, StandsEarlier, AreGoodBefore, AreOpened, IsPlainList, IsListCause, IsNamesCause}
 use Rattle.reply_rewrite.specs.Names.{IsCreated, IsNotCreated}
 use Rattle.reply_rewrite.specs.Results.{is_failed, HasKind, IsPlainResult, ArePlainResults, IsOtherCreated, IsOtherLength, IsCauseAt, IsFirstCause, IsResultsCause}
-use Rattle.reply_rewrite.specs.Stats.{IsPlainLength, IsPlainStat, HasBadLength, IsPlainContent, HasFlaw, HasOtherLength, IsContentCause}
+use Rattle.reply_rewrite.specs.Stats.{IsPlainLength, IsPlainStat, HasBadLength, IsPlainContent, HasFlaw, IsContentCause}
 use Rattle.reply_rewrite.specs.Turns.{IsNew}
 use Rattle.reply_rewrite.specs.declared.finding.Cause.{Cause}
 use Rattle.reply_rewrite.specs.declared.finding.Cause.TheVariants as causes

@@ -1,5 +1,5 @@
 -- The results of a multi, one after another.
-use Rattle.std.proofs.Common.{◌≡◌, ◌<◌, ◌+◌, ℕ, zero, suc, Bool, List, [], ◌∷◌, ◌++◌, length, take, get_or, inl, inr, refl, sym, ap, ◌∙◌, subst, arith, add-one}
+use Rattle.std.proofs.Common.{◌≡◌, ◌<◌, ◌+◌, ℕ, zero, suc, Bool, List, [], ◌∷◌, ◌++◌, length, take, get_or, inl, inr, refl, subst, arith, add-one}
 use Rattle.path_seal.specs.Sealed.{Keys}
 use Rattle.request_queue.specs.declared.asked.AskedOp.{AskedOp}
 use Rattle.zk_messages.specs.declared.reply.OpResult.{OpResult}

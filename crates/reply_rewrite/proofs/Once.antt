@@ -1,5 +1,5 @@
 -- At most one reply is passed on.
-use Rattle.std.proofs.Common.{◌≡◌, ◌⊎◌, ℕ, ℤ, Bool, List, length, Option, Some, None, inl, inr, refl, sym, ap, ◌∙◌, subst}
+use Rattle.std.proofs.Common.{◌≡◌, ℕ, ℤ, Bool, List, Option, Some, inl, inr, refl, sym, ap, ◌∙◌}
 use Rattle.path_seal.specs.Sealed.{AreKeys}
 use Rattle.payload_seal.proofs.Judged.{judged_once}
 use Rattle.payload_seal.specs.Payload.{content_of}

@@ -1,13 +1,10 @@
 -- Each part of an answer has one plain form or one cause.
-use Rattle.std.proofs.Common.{◌≡◌, ◌≢◌, ◌⊎◌, ◌<◌, ◌≤◌, ◌+◌, ℕ, ℤ, pos, Bool, true, false, List, [], ◌∷◌, length, inl, inr, refl, sym, ap, ◌∙◌, subst, arith, Option, Some, None}
-use Rattle.std.specs.Prelude.{◌≤ℤ◌, ◌-ℤ◌}
+use Rattle.std.proofs.Common.{◌≡◌, ◌⊎◌, ◌<◌, ◌≤◌, ℕ, ℤ, pos, Bool, List, [], ◌∷◌, length, inl, inr, refl, sym, ap, ◌∙◌, subst, arith, Option, Some, None}
 use Rattle.std.proofs.lemmas.Bool.{cases_lt}
-use Rattle.std.specs.Cmp.{IsTotalOrder}
 use Rattle.std.specs.Cmp.Lexicographic.{nat_list_cmp_total}
 use Rattle.std.specs.List.{AllByRecursion}
 use Rattle.std.specs.List.Sorted.{IsStrictlySortedBy}
-use Rattle.std.specs.declared.cmp.Ordering.{Ordering}
-use Rattle.std.specs.declared.cmp.Ordering.TheVariants.{Less, Equal, Greater}
+use Rattle.std.specs.declared.cmp.Ordering.TheVariants.{Less, Greater}
 use Rattle.std.specs.Ordering.{ordering_reverse}
 use Rattle.zk_path.specs.Paths.{text_of}
 use Rattle.path_seal.specs.Sealed.{Keys, AreKeys}
@@ -16,8 +13,8 @@ use Rattle.payload_seal.specs.Payload.{Accepts, content_of}
 use Rattle.payload_seal.specs.declared.opening.Flaw.{Flaw}
 use Rattle.zk_records.specs.declared.stat.Stat.{Stat}
 use Rattle.reply_rewrite.proofs.Paths.{one_path}
-use Rattle.reply_rewrite.specs.Children.{IsOneOf, byte_order, name_at, OpensAt, StandsEarlier, AreGoodBefore, AreOpened, ArePlainNames, IsFirstUnopened, IsFirstDoubled, IsPlainList, IsGoodList, IsListCause, IsNamesCause}
-use Rattle.reply_rewrite.specs.Names.{IsMadeFor, IsCreated, IsNotCreated, IsSynced}
+use Rattle.reply_rewrite.specs.Children.{IsOneOf, byte_order, OpensAt, StandsEarlier, AreGoodBefore, ArePlainNames, IsFirstUnopened, IsFirstDoubled, IsPlainList, IsGoodList, IsListCause, IsNamesCause}
+use Rattle.reply_rewrite.specs.Names.{IsCreated, IsNotCreated}
 use Rattle.reply_rewrite.specs.Stats.{IsPlainLength, IsPlainStat, HasBadLength, IsPlainContent, HasFlaw, HasOtherLength}
 use Rattle.reply_rewrite.specs.declared.finding.Cause.{Cause}
 use Rattle.reply_rewrite.specs.declared.finding.Cause.TheVariants as causes

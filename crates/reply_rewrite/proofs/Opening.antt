@@ -1,11 +1,10 @@
 -- Names of children, opened one after another.
-use Rattle.std.proofs.Common.{◌≡◌, ◌⊎◌, ◌↔◌, ◌<◌, ◌+◌, ◌≤◌, ℕ, Bool, true, false, IsTrue, List, [], ◌∷◌, length, get_or, inl, inr, refl, sym, ap, ◌∙◌, subst, arith}
-use Rattle.zk_path.specs.Paths.{IsComponent}
+use Rattle.std.proofs.Common.{◌≡◌, ◌⊎◌, ◌↔◌, ◌<◌, ◌+◌, ◌≤◌, ℕ, Bool, true, false, IsTrue, List, [], ◌∷◌, length, inl, inr, refl, sym, ap, ◌∙◌, subst, arith}
 use Rattle.std.proofs.lemmas.Bool.{cases_lt, false≢true}
 use Rattle.std.proofs.lemmas.Slice.Eq.{bytes_eq-Decides}
 use Rattle.std.specs.Bool.{Decides}
 use Rattle.std.specs.Str.{bytes_eq}
-use Rattle.path_seal.specs.Sealed.{Keys, AreKeys, SealName, OpensName}
+use Rattle.path_seal.specs.Sealed.{Keys, AreKeys, OpensName}
 use Rattle.path_seal.proofs.Apart.{name_apart}
 use Rattle.reply_rewrite.specs.Children.{IsOneOf, name_at, OpensAt, StandsEarlier, AreGoodBefore, AreOpened, ArePlainNames, IsFirstUnopened, IsFirstDoubled, byte_order}
 use Rattle.std.specs.List.Sorted.{IsStrictlySortedBy}

@@ -1,5 +1,5 @@
 -- Paths of nodes that were made or synced.
-use Rattle.std.proofs.Common.{◌≡◌, ◌↔◌, ℕ, Bool, true, false, List, refl, sym, ◌∙◌, subst, IsTrue}
+use Rattle.std.proofs.Common.{◌≡◌, ◌↔◌, ℕ, Bool, true, false, List, sym, ◌∙◌, subst, IsTrue}
 use Rattle.std.proofs.lemmas.Bool.{false≢true}
 use Rattle.zk_path.specs.Numbers.{IsStemOf}
 use Rattle.path_seal.specs.Sealed.{Keys, AreKeys, Opens}

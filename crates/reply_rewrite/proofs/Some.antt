@@ -1,5 +1,5 @@
 -- At least one reply is passed on.
-use Rattle.std.proofs.Common.{◌≡◌, ◌⊎◌, ℕ, ℤ, Bool, List, Option, Some, None, inl, inr, refl}
+use Rattle.std.proofs.Common.{◌⊎◌, ℕ, Bool, List, Option, Some, None, inl, inr, refl}
 use Rattle.zk_path.specs.Paths.{text_of}
 use Rattle.path_seal.specs.Sealed.{AreKeys, Opens}
 use Rattle.payload_seal.specs.declared.keys.EntryKeys.{EntryKeys}

@@ -1,5 +1,5 @@
 -- What a client is told.
-use Rattle.std.proofs.Common.{◌≡◌, ℤ, negsuc, Option, Some, None, inl, inr, refl, sym, subst}
+use Rattle.std.proofs.Common.{◌≡◌, ℤ, Option, Some, None, inl, inr, refl, sym, subst}
 use Rattle.payload_seal.specs.declared.keys.EntryKeys.{EntryKeys}
 use Rattle.request_queue.specs.declared.asked.Asked.{Asked}
 use Rattle.request_queue.specs.declared.asked.Asked.TheVariants as asks

@@ -1,5 +1,5 @@
 -- Stats: the store counts the bytes of payloads, and a client those of contents. The root has no payload.
-use Rattle.std.specs.Prelude.{◌≡◌, ◌≢◌, ℕ, ℤ, pos, ◌≤ℤ◌, ◌-ℤ◌, List, [], ◌∷◌, length, Option}
+use Rattle.std.specs.Prelude.{◌≡◌, ℕ, ℤ, pos, ◌≤ℤ◌, ◌-ℤ◌, List, [], ◌∷◌, length, Option}
 use Rattle.zk_records.specs.declared.stat.Stat.{Stat}
 use Rattle.payload_seal.specs.Payload.{Accepts, content_of}
 use Rattle.payload_seal.specs.Flaws.{FlawOf}

@@ -1,4 +1,4 @@
-use Rattle.std.proofs.Common.{arith, ◌∙◌}
+use Rattle.std.proofs.Common.{◌∙◌}
 use Rattle.std.proofs.lemmas.List.{get_or_default}
 use Rattle.reply_rewrite.proofs.Opening.{known_first, one_more}
 use Rattle.reply_rewrite.proofs.children.opened_set.Goals as goal
