@@ -49,7 +49,7 @@ pub struct Finding {
 }
 
 /// Why an answer has no plain form.
-#[derive(Clone, Copy, Debug, Drop)]
+#[derive(Drop)]
 pub(crate) enum NotPlain {
     /// This is wrong with it.
     Caused(Cause),

@@ -11,7 +11,6 @@
 
 ghost use Rattle.reply_rewrite.specs.Laws.{IsAdmittedOnce};
 
-
 mod children;
 mod content;
 mod finding;
@@ -32,3 +31,6 @@ pub use unveiling::unveil_reply;
 pub fn admitted_once()
     ensures { IsAdmittedOnce }
 {}
+
+#[cfg(test)]
+mod tests;
