@@ -195,12 +195,15 @@ rest_of (n ∷ p) = p
 from_numbered : (k : Keys) (text front : List ℕ) (above : List (List ℕ)) → Dec (Found 58 10 (IsNumbered k text front above)) → CreatedOrNot k (front ∷ above) true text
 unfolding CreatedOrNot
 from_numbered k text front above (yes h) =
-    inl (text_of ((front ++ h.list) ∷ above), record {
-      path = (front ++ h.list) ∷ above;
-      opened = h.held.1;
-      made = record { name = front ++ h.list; front = front; above = above; number = record { digits = h.list; ten = h.sized; decimal = h.held.0; spelled = refl }; whole = refl; cut = refl };
-      spelled = refl;
-    })
+    inl (
+      text_of ((front ++ h.list) ∷ above),
+      record {
+        path = (front ++ h.list) ∷ above;
+        opened = h.held.1;
+        made = record { name = front ++ h.list; front = front; above = above; number = record { digits = h.list; ten = h.sized; decimal = h.held.0; spelled = refl }; whole = refl; cut = refl };
+        spelled = refl;
+      },
+    )
 from_numbered k text front above (no f) = inr (λ path opened made. f (numbered path made opened))
   where
     numbered : (path : List (List ℕ)) → IsStemOf path (front ∷ above) → Opens k text path → Found 58 10 (IsNumbered k text front above)

@@ -97,6 +97,7 @@ first_place k path stored i j a b x y = by_cases (cases_lt i j) (cases_lt j i)
     bad_in : (m n : ℕ) → AreGoodBefore k path stored n → m < n → ((OpensAt k path stored m → ⊥) ⊎ StandsEarlier stored m) → ⊥
     bad_in m n good l (inl closed) = closed (good.opens m l)
     bad_in m n good l (inr earlier) = good.apart m l earlier
+
     by_cases : (i < j) ⊎ (j ≤ i) → (j < i) ⊎ (i ≤ j) → i ≡ j
     by_cases (inl l) other = absurd (bad_in i j b l x)
     by_cases (inr g) (inl l) = absurd (bad_in j i a l y)

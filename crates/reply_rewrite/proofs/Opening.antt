@@ -58,11 +58,14 @@ good_after k path stored i good h alone = record { opens = opens; apart = apart 
     opens_by : (j : ℕ) → (j < i) ⊎ (j ≡ i) → OpensAt k path stored j
     opens_by j (inl l) = good.opens j l
     opens_by j (inr e) = subst (λ (n : ℕ). OpensAt k path stored n) (sym e) h
+
     opens : (j : ℕ) → j < i + 1 → OpensAt k path stored j
     opens j l = opens_by j (last_or_before i j l)
+
     apart_by : (j : ℕ) → (j < i) ⊎ (j ≡ i) → StandsEarlier stored j → ⊥
     apart_by j (inl l) e = good.apart j l e
     apart_by j (inr same) e = alone (subst (λ (n : ℕ). StandsEarlier stored n) same e)
+
     apart : (j : ℕ) → j < i + 1 → StandsEarlier stored j → ⊥
     apart j l e = apart_by j (last_or_before i j l) e
 
@@ -79,6 +82,7 @@ more_opened k path stored old new i keys opened h =
     from : (name : List ℕ) → (name ≡ h.name) ⊎ IsOneOf name old → (index : ℕ) × (index < i + 1) × OpensName k path (name_at stored index) name
     from name (inl e) = (i, omega arith, opens_name k path (name_at stored i) h.name name (sym e) h.opened)
     from name (inr one) = let at = (opened.those name).0 one in (at.0, omega (arith, at.1), at.2)
+
     to : (name : List ℕ) (j : ℕ) → (j < i) ⊎ (j ≡ i) → OpensName k path (name_at stored j) name → (name ≡ h.name) ⊎ IsOneOf name old
     to name j (inl l) x = inr ((opened.those name).1 (j, l, x))
     to name j (inr e) x = inl (one_name k path (name_at stored i) name h.name keys (opens_along k path _ _ name (ap (λ (n : ℕ). name_at stored n) e) x) h.opened)

@@ -26,7 +26,6 @@ pub use finding::{Cause, Finding};
 pub use shape::shape_of;
 pub use unveiling::unveil_reply;
 
-
 /// The law that for a request and a reply of its shape exactly one reply is passed on, with exactly one cause or none.
 pub fn admitted_once()
     ensures { IsAdmittedOnce }

@@ -25,7 +25,12 @@ fn is_failed(stored: &[OpResult]) -> bool
 
 // The result of an operation of a multi that failed, which is an error.
 #[tactic(auto, unfolding(crate::specs::Results::IsPlainResult, crate::specs::Results::IsCauseAt, crate::specs::Results::HasKind))]
-fn unveil_failed(keys: &NameKeys, index: u32, op: &AskedOp, stored: &OpResult) -> Result<OpResult, NotPlain>
+fn unveil_failed(
+    keys: &NameKeys,
+    index: u32,
+    op: &AskedOp,
+    stored: &OpResult,
+) -> Result<OpResult, NotPlain>
     ensures plain { IfOk result (IsPlainResult keys.now true op.now stored.now) }
     ensures cause { IfErr result (IsCausedBy (IsCauseAt keys.now true index op.now stored.now)) }
 {

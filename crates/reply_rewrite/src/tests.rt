@@ -32,6 +32,13 @@ const SEALED_NUMBERED: &str =
 const HELLO: &str =
     "0000000000000001000000009bb332b6446a4226dcc6d3c194c4982ca239c3d518f7f01d682d2f5c3533d15e3e2190748156a742a6e20d6f4d0807b2932c613c24f9";
 
+// The same with another tag, and a payload for "/app" with the flag 4.
+const ANOTHER_TAG: &str =
+    "0000000000000001000000009bb332b6446a4226dcc6d3c194c4982ca239c3d518f7f01d682d2f5c3533d15e3e2190748156a742a6e20d6f4d0807b2932c613c24f8";
+
+const FLAG_4: &str =
+    "0000000000000001000000009fb332b6446a4226dcc6d3c194c4982ca239c3d518f7f01d682d2f5c3533d15e3ec1d260851f162886f90ced6fc0134492";
+
 // "one" for the stem "/q/n-".
 const ONE: &str =
     "0000000000000001000000009a4702209d2f41664a4ca9ae5104b79f75739a3e753fdb05e2dda7d7bd5d1fbd10269b7d4e5679e5d034dfec1b49db0bf1a7cf8d";
@@ -46,10 +53,22 @@ fn has_shape(shape: Shape, outcome: &Outcome) -> bool
         (Shape::Empty, Outcome::Empty) => true,
         (Shape::Path, Outcome::Path(_)) => true,
         (Shape::Stat, Outcome::Stat(_)) => true,
-        (Shape::Content, Outcome::Content { content: _, stat: _ }) => true,
+        (
+            Shape::Content,
+            Outcome::Content {
+                content: _,
+                stat: _,
+            },
+        ) => true,
         (Shape::Acls, Outcome::Acls { acls: _, stat: _ }) => true,
         (Shape::Children, Outcome::Children(_)) => true,
-        (Shape::Children2, Outcome::Children2 { children: _, stat: _ }) => true,
+        (
+            Shape::Children2,
+            Outcome::Children2 {
+                children: _,
+                stat: _,
+            },
+        ) => true,
         (Shape::Multi, Outcome::Multi(_)) => true,
         _ => false,
     }
@@ -80,7 +99,11 @@ fn are_short_results(stored: &Results) -> bool
     ensures short { IsTrue result → All IsShortResult stored.now }
     ensures few { IsTrue result → length stored.now < 2 ^ 32 }
 {
-    stored.len() < 100 && stored.as_slice().iter().all(|stored| is_short_result(stored))
+    stored.len() < 100
+        && stored
+            .as_slice()
+            .iter()
+            .all(|stored| is_short_result(stored))
 }
 
 #[tactic(auto, unfolding(crate::specs::Short::HasShortParts))]
@@ -89,7 +112,10 @@ fn is_short(outcome: &Outcome) -> bool
 {
     match outcome {
         Outcome::Path(text) => text.len() < 1000,
-        Outcome::Content { content: Some(bytes), stat: _ } => bytes.len() < 1000,
+        Outcome::Content {
+            content: Some(bytes),
+            stat: _,
+        } => bytes.len() < 1000,
         Outcome::Children(list) => are_short_names(list),
         Outcome::Children2 { children, stat: _ } => are_short_names(children),
         Outcome::Multi(stored) => are_short_results(stored),
@@ -174,7 +200,12 @@ fn four(alloc: Global) -> Result<Asked, Fail> {
         path: made,
         sequential: false,
     };
-    let ops = vec![in alloc; create, AskedOp::Delete, AskedOp::SetContent { path: changed }, AskedOp::Check]?;
+    let ops = vec![in alloc;
+        create,
+        AskedOp::Delete,
+        AskedOp::SetContent { path: changed },
+        AskedOp::Check,
+    ]?;
     Ok(Asked::Multi(AskedOps::of(ops)))
 }
 
@@ -248,12 +279,7 @@ fn children(alloc: Global, parent: &str, names: &[&str]) -> Result<Outcome, Fail
     Ok(Outcome::Children(Some(sealed_names(alloc, parent, names)?)))
 }
 
-fn children2(
-    alloc: Global,
-    parent: &str,
-    names: &[&str],
-    length: i32,
-) -> Result<Outcome, Fail> {
+fn children2(alloc: Global, parent: &str, names: &[&str], length: i32) -> Result<Outcome, Fail> {
     Ok(Outcome::Children2 {
         children: Some(sealed_names(alloc, parent, names)?),
         stat: stat(length),
@@ -270,11 +296,7 @@ fn done(alloc: Global, made: &str, length: i32) -> Result<Outcome, Fail> {
 
 // ---- what a client is told
 
-fn told(
-    alloc: Global,
-    asked: &Asked,
-    outcome: Outcome,
-) -> Result<(Outcome, Option<Cause>), Fail> {
+fn told(alloc: Global, asked: &Asked, outcome: Outcome) -> Result<(Outcome, Option<Cause>), Fail> {
     let keys = read_keys(&FILE)?;
     if let Asked::Refused { code: 0 } = asked {
         return Err("a refusal without a code".into());
@@ -312,39 +334,88 @@ fn plain_of(alloc: Global, asked: &Asked, outcome: Outcome) -> Result<Outcome, F
     Ok(outcome)
 }
 
+// What the text of a path becomes.
+fn path_told(alloc: Global, asked: &Asked, stored: &str) -> Result<Text, Fail> {
+    let stored = text(alloc, stored)?;
+    match plain_of(alloc, asked, stored)? {
+        Outcome::Path(path) => Ok(path),
+        _ => Err("no path".into()),
+    }
+}
+
+fn is_created(alloc: Global, asked: &str, stored: &str) -> Result<bool, Fail> {
+    let asked_path = create(alloc, asked)?;
+    let told = path_told(alloc, &asked_path, stored)?;
+    Ok(told.as_str() == asked)
+}
+
+fn is_numbered(alloc: Global, stem: &str, stored: &str, number: &str) -> Result<bool, Fail> {
+    let asked = sequential(alloc, stem)?;
+    let told = path_told(alloc, &asked, stored)?;
+    Ok(told.as_str().strip_prefix(stem) == Some(number))
+}
+
+fn is_synced(alloc: Global, asked: &str, stored: &str) -> Result<bool, Fail> {
+    let asked_path = sync(alloc, asked)?;
+    let told = path_told(alloc, &asked_path, stored)?;
+    Ok(told.as_str() == asked)
+}
+
 #[test]
 fn paths_are_opened(rt: HostRuntime) -> Result<(), Fail> {
     let alloc = rt.alloc();
-    let made = plain_of(alloc, &create(alloc, "/app")?, text(alloc, SEALED_APP)?)?;
-    assert!(rt; matches!(&made, Outcome::Path(path) if path.as_str() == "/app"));
-    let stem = sequential(alloc, "/q/n-")?;
-    let made = plain_of(alloc, &stem, text(alloc, SEALED_NUMBERED)?)?;
-    assert!(rt; matches!(&made, Outcome::Path(path) if path.as_str() == "/q/n-0000000001"));
-    let synced = plain_of(alloc, &sync(alloc, "/app")?, text(alloc, SEALED_APP)?)?;
-    assert!(rt; matches!(&synced, Outcome::Path(path) if path.as_str() == "/app"));
+    assert!(rt; is_created(alloc, "/app", SEALED_APP)?);
+    assert!(rt; is_numbered(alloc, "/q/n-", SEALED_NUMBERED, "0000000001")?);
+    assert!(rt; is_synced(alloc, "/app", SEALED_APP)?);
     Ok(())
+}
+
+// The Stat that a Stat of this length becomes.
+fn stat_told(alloc: Global, asked: &str, length: i32) -> Result<Stat, Fail> {
+    let asked = stat_of(alloc, asked)?;
+    match plain_of(alloc, &asked, Outcome::Stat(stat(length)))? {
+        Outcome::Stat(told) => Ok(told),
+        _ => Err("no Stat".into()),
+    }
+}
+
+// The same beside a list of ACLs.
+fn acl_told(alloc: Global, asked: &str, length: i32) -> Result<Stat, Fail> {
+    let asked = get_acl(alloc, asked)?;
+    let stored = acls(alloc, 31, length)?;
+    match plain_of(alloc, &asked, stored)? {
+        Outcome::Acls { acls: Some(_), stat } => Ok(stat),
+        _ => Err("no ACLs".into()),
+    }
 }
 
 #[test]
 fn lengths_are_those_of_contents(rt: HostRuntime) -> Result<(), Fail> {
     let alloc = rt.alloc();
-    let told = plain_of(alloc, &stat_of(alloc, "/a")?, Outcome::Stat(stat(66)))?;
-    assert!(rt; matches!(&told, Outcome::Stat(told) if *told == stat(5)));
-    let told = plain_of(alloc, &stat_of(alloc, "/")?, Outcome::Stat(stat(0)))?;
-    assert!(rt; matches!(&told, Outcome::Stat(told) if *told == stat(0)));
-    let told = plain_of(alloc, &get_acl(alloc, "/a")?, acls(alloc, 31, 61)?)?;
-    assert!(rt; matches!(&told, Outcome::Acls { acls: Some(acls), stat: told } if acls.len() == 1 && *told == stat(0)));
+    for (path, stored, plain) in [("/a", 66, 5), ("/a", 61, 0), ("/", 0, 0)] {
+        assert!(rt; stat_told(alloc, path, stored)? == stat(plain));
+        assert!(rt; acl_told(alloc, path, stored)? == stat(plain));
+    }
     Ok(())
+}
+
+fn is_content(alloc: Global, asked: &str, payload: &str, plain: &str) -> Result<bool, Fail> {
+    let asked = get_content(alloc, asked)?;
+    let stored = content(alloc, Some(payload), plain.len() as i32 + 61)?;
+    match plain_of(alloc, &asked, stored)? {
+        Outcome::Content {
+            content: Some(bytes),
+            stat: told,
+        } => Ok(bytes.as_slice() == plain.as_bytes() && told == stat(plain.len() as i32)),
+        _ => Err("no content".into()),
+    }
 }
 
 #[test]
 fn contents_are_opened(rt: HostRuntime) -> Result<(), Fail> {
     let alloc = rt.alloc();
-    let told = plain_of(alloc, &get_content(alloc, "/app")?, content(alloc, Some(HELLO), 66)?)?;
-    assert!(rt; matches!(&told, Outcome::Content { content: Some(bytes), stat: told } if bytes.as_slice() == b"hello".as_slice() && *told == stat(5)));
-    let numbered = get_content(alloc, "/q/n-0000000001")?;
-    let told = plain_of(alloc, &numbered, content(alloc, Some(ONE), 64)?)?;
-    assert!(rt; matches!(&told, Outcome::Content { content: Some(bytes), stat: told } if bytes.as_slice() == b"one".as_slice() && *told == stat(3)));
+    assert!(rt; is_content(alloc, "/app", HELLO, "hello")?);
+    assert!(rt; is_content(alloc, "/q/n-0000000001", ONE, "one")?);
     Ok(())
 }
 
@@ -360,129 +431,263 @@ fn are_names(list: &Option<Texts>, names: &[&str]) -> bool {
             .all(|(text, name)| text.as_str() == *name)
 }
 
+fn are_children(alloc: Global, stored: &[&str], plain: &[&str]) -> Result<bool, Fail> {
+    let asked = get_children(alloc, "/a")?;
+    let stored = children(alloc, "/a", stored)?;
+    match plain_of(alloc, &asked, stored)? {
+        Outcome::Children(list) => Ok(are_names(&list, plain)),
+        _ => Err("no children".into()),
+    }
+}
+
+fn are_children2(alloc: Global, stored: &[&str], plain: &[&str]) -> Result<bool, Fail> {
+    let asked = get_children2(alloc, "/")?;
+    let stored = children2(alloc, "/", stored, 0)?;
+    match plain_of(alloc, &asked, stored)? {
+        Outcome::Children2 {
+            children: list,
+            stat: told,
+        } => Ok(are_names(&list, plain) && told == stat(0)),
+        _ => Err("no children".into()),
+    }
+}
+
 #[test]
 fn children_are_opened_in_byte_order(rt: HostRuntime) -> Result<(), Fail> {
     let alloc = rt.alloc();
-    let stored = children(alloc, "/a", &["b", "ä", "B", "ab", "a"])?;
-    let told = plain_of(alloc, &get_children(alloc, "/a")?, stored)?;
-    assert!(rt; matches!(&told, Outcome::Children(list) if are_names(list, &["B", "a", "ab", "b", "ä"])));
-    let stored = children2(alloc, "/", &["y", "x"], 0)?;
-    let told = plain_of(alloc, &get_children2(alloc, "/")?, stored)?;
-    assert!(rt; matches!(&told, Outcome::Children2 { children: list, stat: told } if are_names(list, &["x", "y"]) && *told == stat(0)));
-    let told = plain_of(alloc, &get_children(alloc, "/a")?, children(alloc, "/a", &[])?)?;
-    assert!(rt; matches!(&told, Outcome::Children(list) if are_names(list, &[])));
+    let stored = ["b", "ä", "B", "ab", "a"];
+    let plain = ["B", "a", "ab", "b", "ä"];
+    assert!(rt; are_children(alloc, &stored, &plain)?);
+    assert!(rt; are_children2(alloc, &stored, &plain)?);
+    assert!(rt; are_children(alloc, &[], &[])?);
     Ok(())
+}
+
+fn are_four(results: &Results) -> bool {
+    let made = matches!(results.get(0), Some(OpResult::Created(path)) if path.as_str() == "/app");
+    let removed = matches!(results.get(1), Some(OpResult::Deleted));
+    let changed = matches!(results.get(2), Some(OpResult::Changed(told)) if *told == stat(5));
+    let checked = matches!(results.get(3), Some(OpResult::Checked));
+    results.len() == 4 && made && removed && changed && checked
+}
+
+fn results_told(alloc: Global, stored: Outcome) -> Result<Results, Fail> {
+    let asked = four(alloc)?;
+    match plain_of(alloc, &asked, stored)? {
+        Outcome::Multi(results) => Ok(results),
+        _ => Err("no results".into()),
+    }
 }
 
 #[test]
 fn results_are_opened(rt: HostRuntime) -> Result<(), Fail> {
-    let alloc = rt.alloc();
-    let told = plain_of(alloc, &four(alloc)?, done(alloc, SEALED_APP, 66)?)?;
-    let Outcome::Multi(results) = told else {
-        return Err("no results".into());
-    };
-    assert_eq!(rt; results.len(), 4);
-    assert!(rt; matches!(results.get(0), Some(OpResult::Created(path)) if path.as_str() == "/app"));
-    assert!(rt; matches!(results.get(1), Some(OpResult::Deleted)));
-    assert!(rt; matches!(results.get(2), Some(OpResult::Changed(told)) if *told == stat(5)));
-    assert!(rt; matches!(results.get(3), Some(OpResult::Checked)));
+    let stored = done(rt.alloc(), SEALED_APP, 66)?;
+    let results = results_told(rt.alloc(), stored)?;
+    assert!(rt; are_four(&results));
     Ok(())
 }
 
+// The results of a multi of which the second operation failed.
 fn failed(alloc: Global) -> Result<Outcome, Fail> {
-    let codes = vec![in alloc; OpResult::Error { code: 0 }, OpResult::Error { code: -101 }, OpResult::Error { code: -2 }, OpResult::Error { code: -2 }]?;
+    let mut codes = Vec::new(alloc);
+    for code in [0, -101, -2, -2] {
+        codes.push(OpResult::Error { code })?;
+    }
     Ok(Outcome::Multi(Results::of(codes)))
 }
 
 #[test]
-fn errors_and_empty_answers_are_passed_on(rt: HostRuntime) -> Result<(), Fail> {
+fn errors_in_a_multi_are_passed_on(rt: HostRuntime) -> Result<(), Fail> {
+    let stored = failed(rt.alloc())?;
+    let results = results_told(rt.alloc(), stored)?;
+    assert!(rt; matches!(results.get(0), Some(OpResult::Error { code: 0 })));
+    assert!(rt; matches!(results.get(1), Some(OpResult::Error { code: -101 })));
+    Ok(())
+}
+
+// The code of the error that a client is told.
+fn code_told(alloc: Global, asked: &Asked, stored: Outcome) -> Result<i32, Fail> {
+    match plain_of(alloc, asked, stored)? {
+        Outcome::Error { code } => Ok(code),
+        _ => Err("no error".into()),
+    }
+}
+
+#[test]
+fn errors_are_passed_on(rt: HostRuntime) -> Result<(), Fail> {
     let alloc = rt.alloc();
-    assert!(rt; matches!(plain_of(alloc, &Asked::Empty, Outcome::Empty)?, Outcome::Empty));
-    assert!(rt; matches!(plain_of(alloc, &Asked::Close, Outcome::Empty)?, Outcome::Empty));
-    let missing = Outcome::Error { code: -101 };
-    let told = plain_of(alloc, &get_content(alloc, "/a")?, missing)?;
-    assert!(rt; matches!(&told, Outcome::Error { code: -101 }));
-    let refused = Asked::Refused { code: -8 };
-    let told = plain_of(alloc, &refused, Outcome::Stat(stat(99)))?;
-    assert!(rt; matches!(&told, Outcome::Error { code: -8 }));
-    let told = plain_of(alloc, &refused, Outcome::Error { code: -4 })?;
-    assert!(rt; matches!(&told, Outcome::Error { code: -8 }));
-    let told = plain_of(alloc, &four(alloc)?, failed(alloc)?)?;
-    assert!(rt; matches!(&told, Outcome::Multi(results) if matches!(results.get(1), Some(OpResult::Error { code: -101 }))));
+    let missing = code_told(alloc, &Asked::Empty, Outcome::Error { code: -101 })?;
+    assert_eq!(rt; missing, -101);
+    for stored in [Outcome::Stat(stat(99)), Outcome::Error { code: -4 }] {
+        let refused = code_told(alloc, &Asked::Refused { code: -8 }, stored)?;
+        assert_eq!(rt; refused, -8);
+    }
     Ok(())
 }
 
 #[test]
-fn wrong_paths_and_lengths_are_told(rt: HostRuntime) -> Result<(), Fail> {
+fn empty_answers_are_passed_on(rt: HostRuntime) -> Result<(), Fail> {
+    for asked in [Asked::Empty, Asked::Close] {
+        let told = plain_of(rt.alloc(), &asked, Outcome::Empty)?;
+        assert!(rt; matches!(told, Outcome::Empty));
+    }
+    Ok(())
+}
+
+// ---- causes
+
+fn create_cause(alloc: Global, asked: &str, stored: &str) -> Result<Cause, Fail> {
+    let asked = create(alloc, asked)?;
+    let stored = text(alloc, stored)?;
+    cause_of(alloc, &asked, stored)
+}
+
+fn sequential_cause(alloc: Global, stem: &str, stored: &str) -> Result<Cause, Fail> {
+    let asked = sequential(alloc, stem)?;
+    let stored = text(alloc, stored)?;
+    cause_of(alloc, &asked, stored)
+}
+
+fn sync_cause(alloc: Global, asked: &str, stored: &str) -> Result<Cause, Fail> {
+    let asked = sync(alloc, asked)?;
+    let stored = text(alloc, stored)?;
+    cause_of(alloc, &asked, stored)
+}
+
+fn stat_cause(alloc: Global, asked: &str, length: i32) -> Result<Cause, Fail> {
+    let asked = stat_of(alloc, asked)?;
+    cause_of(alloc, &asked, Outcome::Stat(stat(length)))
+}
+
+fn acl_cause(alloc: Global, perms: i32, length: i32) -> Result<Cause, Fail> {
+    let asked = get_acl(alloc, "/a")?;
+    let stored = acls(alloc, perms, length)?;
+    cause_of(alloc, &asked, stored)
+}
+
+fn content_cause(
+    alloc: Global,
+    asked: &str,
+    payload: Option<&str>,
+    length: i32,
+) -> Result<Cause, Fail> {
+    let asked = get_content(alloc, asked)?;
+    let stored = content(alloc, payload, length)?;
+    cause_of(alloc, &asked, stored)
+}
+
+// The cause of names that are sealed under this path, as children of "/a".
+fn children_cause(alloc: Global, under: &str, names: &[&str]) -> Result<Cause, Fail> {
+    let asked = get_children(alloc, "/a")?;
+    let stored = children(alloc, under, names)?;
+    cause_of(alloc, &asked, stored)
+}
+
+fn children2_cause(alloc: Global, under: &str, names: &[&str]) -> Result<Cause, Fail> {
+    let asked = get_children2(alloc, "/a")?;
+    let stored = children2(alloc, under, names, 60)?;
+    cause_of(alloc, &asked, stored)
+}
+
+fn null_children_cause(alloc: Global) -> Result<Cause, Fail> {
+    let asked = get_children(alloc, "/a")?;
+    cause_of(alloc, &asked, Outcome::Children(None))
+}
+
+fn done_cause(alloc: Global, made: &str, length: i32) -> Result<Cause, Fail> {
+    let asked = four(alloc)?;
+    let stored = done(alloc, made, length)?;
+    cause_of(alloc, &asked, stored)
+}
+
+fn multi_cause(alloc: Global, results: Vec<OpResult>) -> Result<Cause, Fail> {
+    let asked = four(alloc)?;
+    cause_of(alloc, &asked, Outcome::Multi(Results::of(results)))
+}
+
+#[test]
+fn wrong_paths_are_told(rt: HostRuntime) -> Result<(), Fail> {
     let alloc = rt.alloc();
-    let other = cause_of(alloc, &create(alloc, "/b")?, text(alloc, SEALED_APP)?)?;
-    assert_eq!(rt; other, Cause::Created);
-    let nine = cause_of(alloc, &sequential(alloc, "/q/n-0")?, text(alloc, SEALED_NUMBERED)?)?;
-    assert_eq!(rt; nine, Cause::Created);
-    let unsealed = cause_of(alloc, &create(alloc, "/app")?, text(alloc, "/app")?)?;
-    assert_eq!(rt; unsealed, Cause::Created);
-    let other = cause_of(alloc, &sync(alloc, "/b")?, text(alloc, SEALED_APP)?)?;
-    assert_eq!(rt; other, Cause::SyncPath);
-    let short = cause_of(alloc, &stat_of(alloc, "/a")?, Outcome::Stat(stat(60)))?;
-    assert_eq!(rt; short, Cause::Length { stored: 60 });
-    let root = cause_of(alloc, &stat_of(alloc, "/")?, Outcome::Stat(stat(61)))?;
-    assert_eq!(rt; root, Cause::Length { stored: 61 });
+    assert_eq!(rt; create_cause(alloc, "/b", SEALED_APP)?, Cause::Created);
+    assert_eq!(rt; create_cause(alloc, "/app", "/app")?, Cause::Created);
+    // Nine digits follow the stem.
+    assert_eq!(rt; sequential_cause(alloc, "/q/n-0", SEALED_NUMBERED)?, Cause::Created);
+    assert_eq!(rt; sync_cause(alloc, "/b", SEALED_APP)?, Cause::SyncPath);
     Ok(())
 }
 
 #[test]
-fn wrong_acls_and_contents_are_told(rt: HostRuntime) -> Result<(), Fail> {
+fn wrong_lengths_and_acls_are_told(rt: HostRuntime) -> Result<(), Fail> {
     let alloc = rt.alloc();
-    let acl = get_acl(alloc, "/a")?;
-    assert_eq!(rt; cause_of(alloc, &acl, acls(alloc, 1, 60)?)?, Cause::Acl);
-    assert_eq!(rt; cause_of(alloc, &acl, acls(alloc, 31, 60)?)?, Cause::Length { stored: 60 });
-    let asked = get_content(alloc, "/app")?;
-    let length = cause_of(alloc, &asked, content(alloc, Some(HELLO), 67)?)?;
-    assert_eq!(rt; length, Cause::Length { stored: 67 });
-    let null = cause_of(alloc, &asked, content(alloc, None, 66)?)?;
-    assert_eq!(rt; null, Cause::Payload(Flaw::Short { length: 0 }));
-    let other = cause_of(alloc, &get_content(alloc, "/a")?, content(alloc, Some(HELLO), 0)?)?;
+    for (path, stored) in [("/a", 60), ("/a", -1), ("/", 61)] {
+        assert_eq!(rt; stat_cause(alloc, path, stored)?, Cause::Length { stored });
+    }
+    assert_eq!(rt; acl_cause(alloc, 1, 60)?, Cause::Acl);
+    assert_eq!(rt; acl_cause(alloc, 31, 60)?, Cause::Length { stored: 60 });
+    Ok(())
+}
+
+#[test]
+fn wrong_contents_are_told(rt: HostRuntime) -> Result<(), Fail> {
+    let alloc = rt.alloc();
+    let short = Cause::Payload(Flaw::Short { length: 0 });
+    let flag = Cause::Payload(Flaw::BadFlag { flag: 4 });
+    for (payload, stored, cause) in [
+        (Some(HELLO), 67, Cause::Length { stored: 67 }),
+        (Some(HELLO), 60, Cause::Length { stored: 60 }),
+        (None, 66, short),
+        (Some(ANOTHER_TAG), 66, Cause::Payload(Flaw::BadTag)),
+        (Some(FLAG_4), 66, flag),
+    ] {
+        assert_eq!(rt; content_cause(alloc, "/app", payload, stored)?, cause);
+    }
+    let other = content_cause(alloc, "/a", Some(HELLO), 66)?;
     assert!(rt; matches!(other, Cause::Payload(Flaw::WrongPath { sealed: _, asked: _ })));
-    let tag = cause_of(alloc, &asked, content(alloc, Some(HELLO.trim_end_matches("f9")), 66)?)?;
-    assert_eq!(rt; tag, Cause::Payload(Flaw::BadTag));
     Ok(())
 }
 
 #[test]
 fn wrong_children_are_told(rt: HostRuntime) -> Result<(), Fail> {
     let alloc = rt.alloc();
-    let asked = get_children(alloc, "/a")?;
-    assert_eq!(rt; cause_of(alloc, &asked, Outcome::Children(None))?, Cause::NullChildren);
-    let elsewhere = cause_of(alloc, &asked, children(alloc, "/b", &["x"])?)?;
-    assert_eq!(rt; elsewhere, Cause::Child { index: 0 });
-    let doubled = cause_of(alloc, &asked, children(alloc, "/a", &["x", "y", "x", "."])?)?;
-    assert_eq!(rt; doubled, Cause::Doubled { index: 2 });
-    let illegal = cause_of(alloc, &asked, children(alloc, "/a", &["x", ".", "x"])?)?;
-    assert_eq!(rt; illegal, Cause::Child { index: 1 });
-    let both = get_children2(alloc, "/a")?;
-    let length = cause_of(alloc, &both, children2(alloc, "/a", &["x"], 60)?)?;
-    assert_eq!(rt; length, Cause::Length { stored: 60 });
-    let child = cause_of(alloc, &both, children2(alloc, "/b", &["x"], 60)?)?;
-    assert_eq!(rt; child, Cause::Child { index: 0 });
+    assert_eq!(rt; null_children_cause(alloc)?, Cause::NullChildren);
+    assert_eq!(rt; children_cause(alloc, "/b", &["x"])?, Cause::Child { index: 0 });
+    assert_eq!(rt; children_cause(alloc, "/a", &["x", ".", "x"])?, Cause::Child { index: 1 });
+    assert_eq!(rt; children_cause(alloc, "/a", &["x", "y", "x", "."])?, Cause::Doubled { index: 2 });
+    Ok(())
+}
+
+#[test]
+fn wrong_children_are_told_before_the_length(rt: HostRuntime) -> Result<(), Fail> {
+    let alloc = rt.alloc();
+    assert_eq!(rt; children2_cause(alloc, "/b", &["x"])?, Cause::Child { index: 0 });
+    assert_eq!(rt; children2_cause(alloc, "/a", &["x"])?, Cause::Length { stored: 60 });
     Ok(())
 }
 
 #[test]
 fn wrong_results_are_told(rt: HostRuntime) -> Result<(), Fail> {
     let alloc = rt.alloc();
-    let asked = four(alloc)?;
-    let none = Outcome::Multi(Results::of(Vec::new(alloc)));
-    assert_eq!(rt; cause_of(alloc, &asked, none)?, Cause::MultiCount { asked: 4, got: 0 });
-    let other = cause_of(alloc, &asked, done(alloc, "/app", 66)?)?;
-    assert_eq!(rt; other, Cause::MultiCreated { index: 0 });
-    let length = cause_of(alloc, &asked, done(alloc, SEALED_APP, 60)?)?;
-    assert_eq!(rt; length, Cause::MultiLength { index: 2 });
+    let none = multi_cause(alloc, Vec::new(alloc))?;
+    assert_eq!(rt; none, Cause::MultiCount { asked: 4, got: 0 });
+    assert_eq!(rt; done_cause(alloc, "/app", 66)?, Cause::MultiCreated { index: 0 });
+    assert_eq!(rt; done_cause(alloc, SEALED_APP, 60)?, Cause::MultiLength { index: 2 });
+    Ok(())
+}
+
+#[test]
+fn a_success_after_an_error_is_told(rt: HostRuntime) -> Result<(), Fail> {
+    let alloc = rt.alloc();
     let late = vec![in alloc; OpResult::Error { code: -2 }, OpResult::Deleted, OpResult::Checked, OpResult::Checked]?;
-    let late = cause_of(alloc, &asked, Outcome::Multi(Results::of(late)))?;
+    let late = multi_cause(alloc, late)?;
     assert_eq!(rt; late, Cause::MultiKind { index: 1 });
-    let made = OpResult::Created(Text::copy_of(alloc, SEALED_APP)?);
-    let kinds = vec![in alloc; made, OpResult::Deleted, OpResult::Checked, OpResult::Error { code: -2 }]?;
-    let kinds = cause_of(alloc, &asked, Outcome::Multi(Results::of(kinds)))?;
-    assert_eq!(rt; kinds, Cause::MultiKind { index: 2 });
+    Ok(())
+}
+
+#[test]
+fn a_result_of_another_kind_is_told(rt: HostRuntime) -> Result<(), Fail> {
+    let alloc = rt.alloc();
+    let kinds = vec![in alloc; OpResult::Deleted, OpResult::Deleted, OpResult::Checked, OpResult::Checked]?;
+    let kinds = multi_cause(alloc, kinds)?;
+    assert_eq!(rt; kinds, Cause::MultiKind { index: 0 });
     Ok(())
 }
