@@ -13,7 +13,7 @@ use Rattle.zk_messages.specs.declared.reply.OpResult.TheVariants as op_results
 use Rattle.zk_records.specs.declared.stat.Stat.{Stat}
 use Rattle.reply_rewrite.proofs.Decided.{created_judged, length_judged, dec_length, dec_opens_at, dec_earlier, dec_number}
 use Rattle.reply_rewrite.proofs.Opening.{none_good, none_opened, good_after, more_opened}
-use Rattle.reply_rewrite.proofs.Sets.{inserted_name, inserted_ascends}
+use Rattle.reply_rewrite.proofs.Sets.{inserted_name, inserted_ascends, inserted_count}
 use Rattle.reply_rewrite.specs.Children.{IsOneOf, byte_order, name_at, OpensAt, StandsEarlier, AreGoodBefore, AreOpened, IsPlainList, IsListCause, IsNamesCause}
 use Rattle.reply_rewrite.specs.Names.{IsCreated, IsNotCreated}
 use Rattle.reply_rewrite.specs.Results.{is_failed, HasKind, IsPlainResult, ArePlainResults, IsOtherCreated, IsOtherLength, IsCauseAt, IsFirstCause, IsResultsCause}
@@ -70,7 +70,7 @@ good_below k path stored m n h good = record { opens = λ i l. good.opens i (ome
 
 new_name : (k : Keys) (path stored names : List (List ℕ)) (i : ℕ) → AreGoodBefore k path stored (suc i) → AreOpened k path stored i names → (at : OpensAt k path stored i) → IsNew k path (name_at stored i) names (insert_key byte_order names at.0)
 new_name k path stored names i good opened at =
-    record { name = at.0; opened = at.1; unknown = unknown; names = inserted_name at.0 names }
+    record { name = at.0; opened = at.1; unknown = unknown; names = inserted_name at.0 names; counted = inserted_count at.0 names unknown }
   where
     unknown : IsOneOf at.0 names → ⊥
     unknown one =

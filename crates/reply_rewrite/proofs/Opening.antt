@@ -50,7 +50,7 @@ pub none_good : (k : Keys) (path stored : List (List ℕ)) → AreGoodBefore k p
 none_good k path stored = record { opens = λ index h. absurd (omega (arith, h)); apart = λ index h e. omega (arith, h) }
 
 pub none_opened : (k : Keys) (path stored : List (List ℕ)) → AreOpened k path stored 0 []
-none_opened k path stored = record { those = λ name. (λ h. absurd h, λ h. omega (arith, h.1)) }
+none_opened k path stored = record { those = λ name. (λ h. absurd h, λ h. omega (arith, h.1)); counted = refl }
 
 pub good_after : (k : Keys) (path stored : List (List ℕ)) (i : ℕ) → AreGoodBefore k path stored i → OpensAt k path stored i → (StandsEarlier stored i → ⊥) → AreGoodBefore k path stored (i + 1)
 good_after k path stored i good h alone = record { opens = opens; apart = apart }
@@ -77,7 +77,7 @@ more_good k path stored old new i good opened h = good_after k path stored i goo
 
 pub more_opened : (k : Keys) (path stored old new : List (List ℕ)) (i : ℕ) → AreKeys k → AreOpened k path stored i old → IsNew k path (name_at stored i) old new → AreOpened k path stored (i + 1) new
 more_opened k path stored old new i keys opened h =
-    record { those = λ name. (λ one. from name ((h.names name).0 one), λ at. (h.names name).1 (to name at.0 (last_or_before i at.0 at.1) at.2)) }
+    record { those = λ name. (λ one. from name ((h.names name).0 one), λ at. (h.names name).1 (to name at.0 (last_or_before i at.0 at.1) at.2)); counted = h.counted ∙ ap (λ (n : ℕ). n + 1) opened.counted }
   where
     from : (name : List ℕ) → (name ≡ h.name) ⊎ IsOneOf name old → (index : ℕ) × (index < i + 1) × OpensName k path (name_at stored index) name
     from name (inl e) = (i, omega arith, opens_name k path (name_at stored i) h.name name (sym e) h.opened)
@@ -105,9 +105,9 @@ known_first k path stored old i text within good opened e turn =
 pub unopened_first : (k : Keys) (path stored : List (List ℕ)) (i : ℕ) → i < length stored → AreGoodBefore k path stored i → ((name : List ℕ) → OpensName k path (name_at stored i) name → ⊥) → IsFirstUnopened k path stored i
 unopened_first k path stored i within good f = record { within = within; before = good; closed = λ h. f h.0 h.1 }
 
-pub is_new : (k : Keys) (path old new : List (List ℕ)) (stored name bytes : List ℕ) (added : Bool) → OpensName k path stored name → bytes ≡ name → added ≡ true → (IsTrue added ↔ (IsOneOf bytes old → ⊥)) → ((other : List ℕ) → IsOneOf other new ↔ ((other ≡ bytes) ⊎ IsOneOf other old)) → IsNew k path stored old new
-is_new k path old new stored name bytes added h e same is names =
-    record { name = bytes; opened = opens_name k path stored name bytes (sym e) h; unknown = is.0 same; names = names }
+pub is_new : (k : Keys) (path old new : List (List ℕ)) (stored name bytes : List ℕ) (added : Bool) → OpensName k path stored name → bytes ≡ name → added ≡ true → (IsTrue added ↔ (IsOneOf bytes old → ⊥)) → ((other : List ℕ) → IsOneOf other new ↔ ((other ≡ bytes) ⊎ IsOneOf other old)) → (IsTrue added → length new ≡ length old + 1) → IsNew k path stored old new
+is_new k path old new stored name bytes added h e same is names count =
+    record { name = bytes; opened = opens_name k path stored name bytes (sym e) h; unknown = is.0 same; names = names; counted = count same }
 
 pub is_known : (k : Keys) (path old : List (List ℕ)) (stored name bytes : List ℕ) (added : Bool) → (IsTrue added ↔ (IsOneOf bytes old → ⊥)) → added ≡ false → OpensName k path stored name → bytes ≡ name → IsKnown k path stored old
 is_known k path old stored name bytes added is same h e =

@@ -1,6 +1,7 @@
 -- Sets of names, as lists in byte order.
-use Rattle.std.proofs.Common.{◌≡◌, ◌⊎◌, ◌↔◌, ℕ, Bool, true, false, not, ◌||◌, List, [], ◌∷◌, map, inl, inr, refl, sym, ap, ◌∙◌, subst, IsTrue}
+use Rattle.std.proofs.Common.{◌≡◌, ◌⊎◌, ◌↔◌, ℕ, Bool, true, false, not, ◌||◌, List, [], ◌∷◌, map, inl, inr, refl, sym, ap, ◌∙◌, subst, IsTrue, ◌+◌, length, arith, if◌then◌else◌}
 use Rattle.std.proofs.lemmas.Bool.{false≢true}
+use Rattle.std.proofs.lemmas.List.{length-map}
 use Rattle.std.proofs.lemmas.Map.Text.{is_eq-slice_cmp}
 use Rattle.std.proofs.lemmas.Slice.Eq.{bytes_eq-Decides}
 use Rattle.std.specs.BTreeMap.{is_at}
@@ -100,6 +101,10 @@ module _ {K : Type 0} (bytes : K → List ℕ) where
 pub ascending : {Z : Type 0} (ks : List (String Z)) → IsStrictlySortedBy string_cmp ks → IsStrictlySortedBy byte_order (map string_bytes ks)
 ascending {Z} ks h = ascends string_bytes ks h
 
+pub counted : {Z : Type 0} (ks ls : List (String Z)) (added : Bool) → length ls ≡ length ks + (if added then 1 else 0) → IsTrue added → length (map string_bytes ls) ≡ length (map string_bytes ks) + 1
+counted {Z} ks ls true e h = omega (arith, e, length-map ls string_bytes, length-map ks string_bytes)
+counted {Z} ks ls false e h = absurd (false≢true h)
+
 pub ruleset sets = (ascending)
 
 -- ---- a name put into a list
@@ -112,6 +117,15 @@ pub inserted_name : (name : List ℕ) (ks : List (List ℕ)) → (q : List ℕ) 
 inserted_name name ks q =
     let both = inserted (λ n. n) name ks (insert_key byte_order ks name) refl q in
     rw (same_map (insert_key byte_order ks name), same_map ks) at both
+
+count_by : (name x : List ℕ) (xs : List (List ℕ)) (o : Ordering) → byte_order name x ≡ o → (IsOneOf name (x ∷ xs) → ⊥) → length (insert_key byte_order xs name) ≡ length xs + 1 → length (match_ordering o (name ∷ x ∷ xs) (x ∷ xs) (x ∷ insert_key byte_order xs name)) ≡ length (x ∷ xs) + 1
+count_by name x xs Less same f rest = omega arith
+count_by name x xs Equal same f rest = absurd (f (inl (equal_bytes name x same)))
+count_by name x xs Greater same f rest = omega (arith, rest)
+
+pub inserted_count : (name : List ℕ) (ks : List (List ℕ)) → (IsOneOf name ks → ⊥) → length (insert_key byte_order ks name) ≡ length ks + 1
+inserted_count name [] f = refl
+inserted_count name (x ∷ xs) f = count_by name x xs (byte_order name x) refl f (inserted_count name xs (λ h. f (inr h)))
 
 all_above : (x : List ℕ) (ks : List (List ℕ)) → Type 0
 all_above x ks = AllByRecursion (λ y. byte_order x y ≡ Less) ks

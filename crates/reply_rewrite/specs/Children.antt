@@ -34,9 +34,10 @@ pub record AreGoodBefore (k : Keys) (path stored : List (List ℕ)) (place : ℕ
   pub opens : (index : ℕ) → index < place → OpensAt k path stored index
   pub apart : (index : ℕ) → index < place → StandsEarlier stored index → ⊥
 
--- the names are those that the stored ones before this place open to
+-- the names are those that the stored ones before this place open to, and as many
 pub record AreOpened (k : Keys) (path stored : List (List ℕ)) (place : ℕ) (names : List (List ℕ)) : Type 0 where
   pub those : (name : List ℕ) → IsOneOf name names ↔ ((index : ℕ) × (index < place) × OpensName k path (name_at stored index) name)
+  pub counted : length names ≡ place
 
 -- the plain names are those that the stored ones open to, in byte order
 pub record ArePlainNames (k : Keys) (path stored plain : List (List ℕ)) : Type 0 where

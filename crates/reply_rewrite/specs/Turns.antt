@@ -1,5 +1,5 @@
 -- A turn of opening names: what becomes of a stored one.
-use Rattle.std.specs.Prelude.{◌≡◌, ◌⊎◌, ◌↔◌, ℕ, List}
+use Rattle.std.specs.Prelude.{◌≡◌, ◌⊎◌, ◌↔◌, ◌+◌, ℕ, List, length}
 use Rattle.path_seal.specs.Sealed.{Keys, OpensName}
 use Rattle.reply_rewrite.specs.Children.{IsOneOf}
 use Rattle.reply_rewrite.specs.declared.children.Added.{Added}
@@ -11,6 +11,7 @@ pub record IsNew (k : Keys) (path : List (List ℕ)) (stored : List ℕ) (old ne
   pub opened : OpensName k path stored name
   pub unknown : IsOneOf name old → ⊥
   pub names : (other : List ℕ) → IsOneOf other new ↔ ((other ≡ name) ⊎ IsOneOf other old)
+  pub counted : length new ≡ length old + 1
 
 -- the stored name opens to one that the set had
 pub record IsKnown (k : Keys) (path : List (List ℕ)) (stored : List ℕ) (old : List (List ℕ)) : Type 0 where

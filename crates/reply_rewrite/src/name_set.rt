@@ -1,6 +1,6 @@
 //! Names in byte order.
 
-ghost use Rattle.std.specs.Prelude.{◌≡◌, ◌⊎◌, ◌↔◌, ℕ, List, [], string_bytes, IfOk, OnOk, IsTrue};
+ghost use Rattle.std.specs.Prelude.{◌≡◌, ◌⊎◌, ◌↔◌, ◌+◌, ℕ, List, [], length, string_bytes, IfOk, OnOk, IsTrue};
 ghost use Rattle.std.specs.List.Sorted.{IsStrictlySortedBy};
 ghost use Rattle.reply_rewrite.specs.Children.{IsOneOf, byte_order};
 
@@ -37,6 +37,7 @@ impl NameSet {
     #[tactic(auto, using(crate::proofs::Sets::sets))]
     pub(crate) fn insert(&mut self, name: String) -> Result<bool, Memory>
         ensures added { IfOk result (λ added. IsTrue added ↔ (IsOneOf (string_bytes name) self.old → ⊥)) }
+        ensures counted { IfOk result (λ added. IsTrue added → length self.new ≡ length self.old + 1) }
         ensures names { OnOk result ((other : List ℕ) → IsOneOf other self.new ↔ ((other ≡ string_bytes name) ⊎ IsOneOf other self.old)) }
     {
         let added = self.held.insert(name)?;

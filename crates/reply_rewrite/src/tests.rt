@@ -383,8 +383,9 @@ fn stat_told(alloc: Global, asked: &str, length: i32) -> Result<Stat, Fail> {
 fn acl_told(alloc: Global, asked: &str, length: i32) -> Result<Stat, Fail> {
     let asked = get_acl(alloc, asked)?;
     let stored = acls(alloc, 31, length)?;
-    match plain_of(alloc, &asked, stored)? {
-        Outcome::Acls { acls: Some(_), stat } => Ok(stat),
+    let told = plain_of(alloc, &asked, stored)?;
+    match &told {
+        Outcome::Acls { acls: _, stat } => Ok(*stat),
         _ => Err("no ACLs".into()),
     }
 }
@@ -399,23 +400,35 @@ fn lengths_are_those_of_contents(rt: HostRuntime) -> Result<(), Fail> {
     Ok(())
 }
 
-fn is_content(alloc: Global, asked: &str, payload: &str, plain: &str) -> Result<bool, Fail> {
+// Whether a payload with a stored length becomes this content with this length.
+fn is_content(
+    alloc: Global,
+    asked: &str,
+    (payload, stored): (&str, i32),
+    (plain, wanted): (&str, i32),
+) -> Result<bool, Fail> {
     let asked = get_content(alloc, asked)?;
-    let stored = content(alloc, Some(payload), plain.len() as i32 + 61)?;
-    match plain_of(alloc, &asked, stored)? {
-        Outcome::Content {
-            content: Some(bytes),
-            stat: told,
-        } => Ok(bytes.as_slice() == plain.as_bytes() && told == stat(plain.len() as i32)),
-        _ => Err("no content".into()),
-    }
+    let stored = content(alloc, Some(payload), stored)?;
+    let told = plain_of(alloc, &asked, stored)?;
+    let Outcome::Content {
+        content: bytes,
+        stat: length,
+    } = &told
+    else {
+        return Ok(false);
+    };
+    let is_plain = match bytes {
+        Some(bytes) => bytes.as_slice() == plain.as_bytes(),
+        None => false,
+    };
+    Ok(is_plain && *length == stat(wanted))
 }
 
 #[test]
 fn contents_are_opened(rt: HostRuntime) -> Result<(), Fail> {
     let alloc = rt.alloc();
-    assert!(rt; is_content(alloc, "/app", HELLO, "hello")?);
-    assert!(rt; is_content(alloc, "/q/n-0000000001", ONE, "one")?);
+    assert!(rt; is_content(alloc, "/app", (HELLO, 66), ("hello", 5))?);
+    assert!(rt; is_content(alloc, "/q/n-0000000001", (ONE, 64), ("one", 3))?);
     Ok(())
 }
 
@@ -443,13 +456,15 @@ fn are_children(alloc: Global, stored: &[&str], plain: &[&str]) -> Result<bool, 
 fn are_children2(alloc: Global, stored: &[&str], plain: &[&str]) -> Result<bool, Fail> {
     let asked = get_children2(alloc, "/")?;
     let stored = children2(alloc, "/", stored, 0)?;
-    match plain_of(alloc, &asked, stored)? {
-        Outcome::Children2 {
-            children: list,
-            stat: told,
-        } => Ok(are_names(&list, plain) && told == stat(0)),
-        _ => Err("no children".into()),
-    }
+    let told = plain_of(alloc, &asked, stored)?;
+    let Outcome::Children2 {
+        children: list,
+        stat: length,
+    } = &told
+    else {
+        return Ok(false);
+    };
+    Ok(are_names(list, plain) && *length == stat(0))
 }
 
 #[test]
@@ -611,7 +626,10 @@ fn wrong_paths_are_told(rt: HostRuntime) -> Result<(), Fail> {
     assert_eq!(rt; create_cause(alloc, "/b", SEALED_APP)?, Cause::Created);
     assert_eq!(rt; create_cause(alloc, "/app", "/app")?, Cause::Created);
     // Nine digits follow the stem.
-    assert_eq!(rt; sequential_cause(alloc, "/q/n-0", SEALED_NUMBERED)?, Cause::Created);
+    assert_eq!(rt;
+        sequential_cause(alloc, "/q/n-0", SEALED_NUMBERED)?,
+        Cause::Created
+    );
     assert_eq!(rt; sync_cause(alloc, "/b", SEALED_APP)?, Cause::SyncPath);
     Ok(())
 }
@@ -642,7 +660,15 @@ fn wrong_contents_are_told(rt: HostRuntime) -> Result<(), Fail> {
         assert_eq!(rt; content_cause(alloc, "/app", payload, stored)?, cause);
     }
     let other = content_cause(alloc, "/a", Some(HELLO), 66)?;
-    assert!(rt; matches!(other, Cause::Payload(Flaw::WrongPath { sealed: _, asked: _ })));
+    assert!(rt;
+        matches!(
+            other,
+            Cause::Payload(Flaw::WrongPath {
+                sealed: _,
+                asked: _
+            })
+        )
+    );
     Ok(())
 }
 
@@ -650,17 +676,32 @@ fn wrong_contents_are_told(rt: HostRuntime) -> Result<(), Fail> {
 fn wrong_children_are_told(rt: HostRuntime) -> Result<(), Fail> {
     let alloc = rt.alloc();
     assert_eq!(rt; null_children_cause(alloc)?, Cause::NullChildren);
-    assert_eq!(rt; children_cause(alloc, "/b", &["x"])?, Cause::Child { index: 0 });
-    assert_eq!(rt; children_cause(alloc, "/a", &["x", ".", "x"])?, Cause::Child { index: 1 });
-    assert_eq!(rt; children_cause(alloc, "/a", &["x", "y", "x", "."])?, Cause::Doubled { index: 2 });
+    assert_eq!(rt;
+        children_cause(alloc, "/b", &["x"])?,
+        Cause::Child { index: 0 }
+    );
+    assert_eq!(rt;
+        children_cause(alloc, "/a", &["x", ".", "x"])?,
+        Cause::Child { index: 1 }
+    );
+    assert_eq!(rt;
+        children_cause(alloc, "/a", &["x", "y", "x", "."])?,
+        Cause::Doubled { index: 2 }
+    );
     Ok(())
 }
 
 #[test]
 fn wrong_children_are_told_before_the_length(rt: HostRuntime) -> Result<(), Fail> {
     let alloc = rt.alloc();
-    assert_eq!(rt; children2_cause(alloc, "/b", &["x"])?, Cause::Child { index: 0 });
-    assert_eq!(rt; children2_cause(alloc, "/a", &["x"])?, Cause::Length { stored: 60 });
+    assert_eq!(rt;
+        children2_cause(alloc, "/b", &["x"])?,
+        Cause::Child { index: 0 }
+    );
+    assert_eq!(rt;
+        children2_cause(alloc, "/a", &["x"])?,
+        Cause::Length { stored: 60 }
+    );
     Ok(())
 }
 
@@ -669,15 +710,26 @@ fn wrong_results_are_told(rt: HostRuntime) -> Result<(), Fail> {
     let alloc = rt.alloc();
     let none = multi_cause(alloc, Vec::new(alloc))?;
     assert_eq!(rt; none, Cause::MultiCount { asked: 4, got: 0 });
-    assert_eq!(rt; done_cause(alloc, "/app", 66)?, Cause::MultiCreated { index: 0 });
-    assert_eq!(rt; done_cause(alloc, SEALED_APP, 60)?, Cause::MultiLength { index: 2 });
+    assert_eq!(rt;
+        done_cause(alloc, "/app", 66)?,
+        Cause::MultiCreated { index: 0 }
+    );
+    assert_eq!(rt;
+        done_cause(alloc, SEALED_APP, 60)?,
+        Cause::MultiLength { index: 2 }
+    );
     Ok(())
 }
 
 #[test]
 fn a_success_after_an_error_is_told(rt: HostRuntime) -> Result<(), Fail> {
     let alloc = rt.alloc();
-    let late = vec![in alloc; OpResult::Error { code: -2 }, OpResult::Deleted, OpResult::Checked, OpResult::Checked]?;
+    let late = vec![in alloc;
+        OpResult::Error { code: -2 },
+        OpResult::Deleted,
+        OpResult::Checked,
+        OpResult::Checked,
+    ]?;
     let late = multi_cause(alloc, late)?;
     assert_eq!(rt; late, Cause::MultiKind { index: 1 });
     Ok(())
@@ -686,7 +738,12 @@ fn a_success_after_an_error_is_told(rt: HostRuntime) -> Result<(), Fail> {
 #[test]
 fn a_result_of_another_kind_is_told(rt: HostRuntime) -> Result<(), Fail> {
     let alloc = rt.alloc();
-    let kinds = vec![in alloc; OpResult::Deleted, OpResult::Deleted, OpResult::Checked, OpResult::Checked]?;
+    let kinds = vec![in alloc;
+        OpResult::Deleted,
+        OpResult::Deleted,
+        OpResult::Checked,
+        OpResult::Checked,
+    ]?;
     let kinds = multi_cause(alloc, kinds)?;
     assert_eq!(rt; kinds, Cause::MultiKind { index: 0 });
     Ok(())
