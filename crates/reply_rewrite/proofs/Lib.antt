@@ -11,3 +11,5 @@ pub mod Once
 pub mod Decided
 pub mod Judging
 pub mod Some
+pub mod PassedOn
+pub mod WhenRead

@@ -6,10 +6,10 @@
 //! stands on `request_queue` for what was asked, on `path_seal` and `payload_seal` for opening, and on `zk_messages` for
 //! replies.
 //!
-//! Read [`Cause`] first, then [`unveil_reply`], then the law at the end of this file.
+//! Read [`Cause`] first, then [`unveil_reply`], then the laws at the end of this file.
 #![tactic(auto)]
 
-ghost use Rattle.reply_rewrite.specs.Laws.{IsAdmittedOnce};
+ghost use Rattle.reply_rewrite.specs.Laws.{IsAdmittedOnce, IsPassedOn, IsShortWhenRead};
 
 mod children;
 mod content;
@@ -29,6 +29,17 @@ pub use unveiling::unveil_reply;
 /// The law that for a request and a reply of its shape exactly one reply is passed on, with exactly one cause or none.
 pub fn admitted_once()
     ensures { IsAdmittedOnce }
+{}
+
+/// The law that the reply that is passed on answers the request too, and can be written where the store's can.
+pub fn passed_on()
+    ensures { IsPassedOn }
+{}
+
+/// The law that the reply that was read from a body of at most 134,217,728 bytes has its shape and is short enough for
+/// [`unveil_reply`].
+pub fn short_when_read()
+    ensures { IsShortWhenRead }
 {}
 
 #[cfg(test)]
