@@ -1,0 +1,15 @@
+pub mod Lengths
+pub mod Paths
+pub mod Sets
+pub mod Opening
+pub mod Multis
+pub mod Answering
+pub mod Told
+pub mod OneRow
+pub mod OneResults
+pub mod Once
+pub mod Decided
+pub mod Judging
+pub mod Some
+pub mod PassedOn
+pub mod WhenRead

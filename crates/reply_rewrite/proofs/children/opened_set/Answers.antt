@@ -1,0 +1,15 @@
+use Rattle.std.proofs.Common.{◌∙◌}
+use Rattle.std.proofs.lemmas.List.{get_or_default}
+use Rattle.reply_rewrite.proofs.Opening.{known_first, one_more}
+use Rattle.reply_rewrite.proofs.children.opened_set.Goals as goal
+
+pub returns-in-Known-clause-cause : goal.returns-in-Known-clause-cause
+returns-in-Known-clause-cause c =
+    let turn = rw c.in-Known.is at c.in_ok-add_opened.ensures in
+    known_first _ _ _ _ _ _ c.loop-index-test.true c.loop-index.invariant.good c.loop-index.invariant.opened (c.index-stored-index.is ∙ get_or_default _ _ _ _ c.loop-index-test.true) turn
+
+pub loop-index-preserved : goal.loop-index-preserved
+loop-index-preserved c =
+    let turn = rw c.in-New.is at c.in_ok-add_opened.ensures in
+    let both = one_more _ _ _ _ _ _ _ c.are_keys.ensures c.loop-index.invariant.good c.loop-index.invariant.opened (c.index-stored-index.is ∙ get_or_default _ _ _ _ c.loop-index-test.true) turn in
+    record { good = both.0; opened = both.1 }

@@ -1,0 +1,10 @@
+pub mod Shapes
+pub mod Caused
+pub mod Stats
+pub mod Names
+pub mod Children
+pub mod Turns
+pub mod Results
+pub mod Short
+pub mod Admits
+pub mod Laws
