@@ -29,7 +29,7 @@ OpensAt k path stored index = (name : List ℕ) × OpensName k path (name_at sto
 abbrev pub StandsEarlier : List (List ℕ) → ℕ → Type 0
 StandsEarlier stored index = (earlier : ℕ) × (earlier < index) × (name_at stored earlier ≡ name_at stored index)
 
--- each stored name before this place opens, and is not told twice
+-- each stored name before this place opens, and does not stand earlier too
 pub record AreGoodBefore (k : Keys) (path stored : List (List ℕ)) (place : ℕ) : Type 0 where
   pub opens : (index : ℕ) → index < place → OpensAt k path stored index
   pub apart : (index : ℕ) → index < place → StandsEarlier stored index → ⊥

@@ -24,7 +24,7 @@ unfoldable pub IsShortResult : OpResult → Type 0
 IsShortResult (op_results.Created text) = IsShortText text
 IsShortResult stored = Unit {0}
 
--- names are opened under the paths of these requests
+-- a path under which names are opened has a short text, and a multi few operations
 unfoldable pub HasShortPath : Asked → Type 0
 HasShortPath (asks.Children path) = IsShortPath path
 HasShortPath (asks.Children2 path) = IsShortPath path

@@ -20,6 +20,7 @@ use zk_messages::{Outcome, Results};
 use zk_path::Path;
 use zk_records::{Acl, Acls, Stat};
 
+/// The plain path of a node that was made.
 #[tactic(auto, unfolding(crate::specs::Admits::IsPlain, crate::specs::Admits::IsCauseOf))]
 pub(crate) fn unveil_create(
     alloc: Global,
@@ -38,6 +39,7 @@ pub(crate) fn unveil_create(
     }
 }
 
+/// The plain path of a node that was synced.
 #[tactic(auto, unfolding(crate::specs::Admits::IsPlain, crate::specs::Admits::IsCauseOf))]
 pub(crate) fn unveil_sync(
     alloc: Global,
@@ -55,6 +57,7 @@ pub(crate) fn unveil_sync(
     }
 }
 
+/// The Stat of a node.
 #[tactic(auto, using(crate::proofs::Answering::answers), unfolding(crate::specs::Admits::IsPlain, crate::specs::Admits::IsCauseOf))]
 pub(crate) fn unveil_stat_of(
     keys: &EntryKeys,
@@ -68,6 +71,7 @@ pub(crate) fn unveil_stat_of(
     Ok(Outcome::Stat(stat))
 }
 
+/// The content of a node and its Stat.
 #[tactic(auto, using(crate::proofs::Answering::answers), unfolding(crate::specs::Admits::IsPlain, crate::specs::Admits::IsCauseOf))]
 pub(crate) fn unveil_get_content(
     alloc: Global,
@@ -84,13 +88,14 @@ pub(crate) fn unveil_get_content(
     Ok(Outcome::Content { content, stat })
 }
 
+// Whether it lets anyone do anything.
 fn is_open_acl(acl: &Acl) -> bool
     ensures { IsTrue result ↔ (acl.now ≡ open_acl) }
 {
     acl.perms == 31 && acl.scheme.as_str() == "world" && acl.id.as_str() == "anyone"
 }
 
-// Whether anyone may do anything.
+// Whether it is the one ACL that lets anyone do anything.
 fn is_open(list: &Option<Acls>) -> bool
     ensures { IsTrue result ↔ IsOpen list.now }
 {
@@ -103,6 +108,7 @@ fn is_open(list: &Option<Acls>) -> bool
     }
 }
 
+/// The list of ACLs, which stays, and the Stat of a node.
 #[tactic(auto, using(crate::proofs::Answering::answers), unfolding(crate::specs::Admits::IsPlain, crate::specs::Admits::IsCauseOf))]
 pub(crate) fn unveil_get_acl(
     keys: &EntryKeys,
@@ -120,6 +126,7 @@ pub(crate) fn unveil_get_acl(
     Ok(Outcome::Acls { acls, stat })
 }
 
+/// The names of a node's children.
 #[tactic(auto, using(crate::proofs::Answering::answers), unfolding(crate::specs::Admits::IsPlain, crate::specs::Admits::IsCauseOf))]
 pub(crate) fn unveil_get_children(
     alloc: Global,
@@ -136,6 +143,7 @@ pub(crate) fn unveil_get_children(
     Ok(Outcome::Children(names))
 }
 
+/// The names of a node's children and its Stat.
 #[tactic(auto, using(crate::proofs::Answering::answers), unfolding(crate::specs::Admits::IsPlain, crate::specs::Admits::IsCauseOf))]
 pub(crate) fn unveil_get_children2(
     alloc: Global,
@@ -154,6 +162,7 @@ pub(crate) fn unveil_get_children2(
     Ok(Outcome::Children2 { children, stat })
 }
 
+/// The results of a multi.
 #[tactic(auto, unfolding(crate::specs::Admits::IsPlain, crate::specs::Admits::IsCauseOf))]
 pub(crate) fn unveil_multi(
     alloc: Global,
