@@ -1,0 +1,133 @@
+//! What is kept of a node.
+
+ghost use Rattle.std.specs.Prelude.{◌≡◌, map, IfOk};
+ghost use Rattle.std.specs.String.{string_bytes};
+ghost use Rattle.tree_state.specs.Changes.{fresh_numbers};
+ghost use Rattle.tree_state.specs.Places.{IsSmall, IsRoot, kept_stat};
+
+use jute_core::{Bytes, Memory, Text, Texts};
+use std::alloc::Global;
+use std::collections::BTreeSet;
+use zk_records::Stat;
+
+/// The zxid and the time in milliseconds of a change, and the session that asked for it.
+#[derive(Clone, Copy, Debug, Drop)]
+pub struct Moment {
+    pub zxid: i64,
+    pub time: i64,
+    pub session: i64,
+}
+
+/// The numbers of a node.
+#[derive(Clone, Copy, Debug, Drop)]
+pub struct Numbers {
+    /// The zxid of its creation.
+    pub czxid: i64,
+    /// The zxid of the last change of its content.
+    pub mzxid: i64,
+    /// The zxid of the last change of its children.
+    pub pzxid: i64,
+    /// The time of its creation, in milliseconds.
+    pub ctime: i64,
+    /// The time of the last change of its content, in milliseconds.
+    pub mtime: i64,
+    /// How often its content was changed.
+    pub version: u32,
+    /// How many children were made.
+    pub creations: u32,
+    /// How many of them were removed.
+    pub deletions: u32,
+    /// How often its ACL was changed.
+    pub aversion: u32,
+    /// The session of an ephemeral, else 0.
+    pub owner: i64,
+}
+
+/// A node: its content, its numbers and the names of its children.
+#[derive(Drop)]
+pub struct Node {
+    pub content: Option<Bytes>,
+    pub numbers: Numbers,
+    pub names: BTreeSet<String>,
+}
+
+impl Node {
+    /// The Stat of the node. Takes no memory.
+    pub(crate) fn stat(&self) -> Stat
+        requires { IsSmall self.now }
+        ensures { result ≡ kept_stat self.now }
+    {
+        let changes = self.numbers.creations.saturating_add(self.numbers.deletions);
+        Stat {
+            czxid: self.numbers.czxid,
+            mzxid: self.numbers.mzxid,
+            ctime: self.numbers.ctime,
+            mtime: self.numbers.mtime,
+            version: self.numbers.version as i32,
+            cversion: changes.min(2_147_483_647) as i32,
+            aversion: self.numbers.aversion as i32,
+            owner: self.numbers.owner,
+            length: self.content.as_ref().map_or(0, Bytes::len) as i32,
+            children: self.names.len() as i32,
+            pzxid: self.numbers.pzxid,
+        }
+    }
+
+    /// A copy of the content.
+    pub(crate) fn content(&self, alloc: Global) -> Result<Option<Bytes>, Memory>
+        ensures { IfOk result (λ content. content ≡ self.now.content) }
+    {
+        match &self.content {
+            Some(content) => Ok(Some(Bytes::copy_of(alloc, content.as_slice())?)),
+            None => Ok(None),
+        }
+    }
+
+    /// The names of the children, in byte order. The cost is linear in their bytes.
+    pub(crate) fn child_names(&self, alloc: Global) -> Result<Texts, Memory>
+        ensures { IfOk result (λ names. names ≡ map string_bytes self.now.names.keys) }
+    {
+        let mut names = Vec::new(alloc);
+        for name in &self.names {
+            names.push(Text::copy_of(alloc, name)?)?;
+        }
+        Ok(Texts::of(names))
+    }
+}
+
+// The root, which has had so many creations.
+pub(crate) fn root(alloc: Global, creations: u32) -> Node
+    ensures { IsRoot result creations }
+{
+    let at = Moment {
+        zxid: 0,
+        time: 0,
+        session: 0,
+    };
+    let mut numbers = fresh(&at, false);
+    numbers.creations = creations;
+    Node {
+        content: None,
+        numbers,
+        names: BTreeSet::new(alloc),
+    }
+}
+
+// The numbers of a node that is made at this moment.
+pub(crate) fn fresh(at: &Moment, ephemeral: bool) -> Numbers
+    ensures { result ≡ fresh_numbers at.now ephemeral }
+{
+    let owner = if ephemeral { at.session } else { 0 };
+    Numbers {
+        czxid: at.zxid,
+        mzxid: at.zxid,
+        pzxid: at.zxid,
+        ctime: at.time,
+        mtime: at.time,
+        version: 0,
+        creations: 0,
+        deletions: 0,
+        aversion: 0,
+        owner,
+    }
+}

@@ -1,0 +1,203 @@
+//! The live sessions and their connections.
+
+ghost use Rattle.std.specs.Prelude.{◌≡◌, ◌<ℤ◌, ℕ, ℤ, pos, List, [], ◌∷◌, ◌++◌, Bool, true, false, Some, None, if◌then◌else◌, map, filter, IfOk, IfErr, OnOk, OnErr};
+ghost use Rattle.std.specs.String.{string_bytes};
+ghost use Rattle.zk_path.specs.Paths.{text_of};
+ghost use Rattle.tree_state.specs.Commands.{IsTextOf};
+ghost use Rattle.tree_state.specs.Nodes.{Path};
+ghost use Rattle.tree_state.specs.State.{Session as PlainSession, session_of, session_at, change_session, heard_at, without_session, without_connection};
+ghost use Rattle.tree_state.specs.Step.{given_to, with_session, with_moved};
+ghost use Rattle.tree_state.specs.Sessions.{Keeps, AreBelow, Owning, with_owned, without_owned, OwnTexts};
+
+use jute_core::Memory;
+use std::alloc::Global;
+use std::collections::BTreeMap;
+use zk_records::ConnectRequest;
+
+/// What a connect is given: a session, its timeout in milliseconds, and its password. Session 0 is none.
+#[derive(Clone, Copy, Debug, Drop)]
+pub struct Given {
+    pub session: i64,
+    pub timeout: i32,
+    pub password: [u8; 16],
+}
+
+/// A live session: its timeout in milliseconds, its password, the time at which it was last heard, its connection, and the
+/// paths of its ephemeral nodes in the order in which they were made.
+#[derive(Drop)]
+pub struct Session {
+    pub timeout: i32,
+    pub password: [u8; 16],
+    pub heard: i64,
+    pub connection: Option<u32>,
+    pub ephemerals: Vec<String>,
+}
+
+/// The live sessions by their numbers, and the session of each connection that has one. Either is found in time that grows
+/// with the logarithm of their number.
+#[derive(Drop)]
+pub struct Sessions {
+    pub live: BTreeMap<i64, Session>,
+    pub connections: BTreeMap<u32, i64>,
+}
+
+impl Sessions {
+    /// No session. Takes no memory.
+    pub(crate) fn new(alloc: Global) -> Sessions
+        ensures { (owned : Owning) → Keeps result [] owned }
+    {
+        Sessions {
+            live: BTreeMap::new(alloc),
+            connections: BTreeMap::new(alloc),
+        }
+    }
+
+    /// The session of a connection. Takes no memory.
+    pub(crate) fn session_of(&self, connection: u32) -> Option<i64>
+        ensures { (xs : List PlainSession) (owned : Owning) → Keeps self.now xs owned → result ≡ session_of connection xs }
+    {
+        self.connections.get(&connection).copied()
+    }
+
+    /// The session is heard. Takes no memory.
+    pub(crate) fn hear(&mut self, session: i64, now: i64)
+        ensures { (xs : List PlainSession) (owned : Owning) → Keeps self.old xs owned
+            → Keeps self.new (change_session session (heard_at now) xs) owned }
+    {
+        if let Some(live) = self.live.get_mut(&session) {
+            live.heard = now;
+        }
+    }
+
+    /// What a connect request is given, where `fresh` and its password are those of the next session. Takes no memory.
+    pub(crate) fn given(&self, asked: &ConnectRequest, fresh: i64, password: [u8; 16]) -> Given
+        ensures { (xs : List PlainSession) (owned : Owning) → Keeps self.now xs owned → result ≡ given_to xs asked.now fresh password }
+    {
+        let timeout = asked.timeout.clamp(4_000, 40_000);
+        if asked.session == 0 {
+            return Given {
+                session: fresh,
+                timeout,
+                password,
+            };
+        }
+        match self.live.get(&asked.session) {
+            Some(live) if live.has_password(asked) => Given {
+                session: asked.session,
+                timeout,
+                password: live.password,
+            },
+            _ => no_session(),
+        }
+    }
+
+    /// A new session, above all others, on a connection that has none. Without memory all is as it was.
+    pub(crate) fn open(&mut self, alloc: Global, given: &Given, now: i64, connection: u32) -> Result<(), Memory>
+        ensures ok { OnOk result ((xs : List PlainSession) (owned : Owning) → Keeps self.old xs owned
+            → session_of connection xs ≡ None → AreBelow given.now.session xs → owned given.now.session ≡ []
+            → Keeps self.new (with_session given.now now connection xs) owned) }
+        ensures err { OnErr result ((xs : List PlainSession) (owned : Owning) → Keeps self.old xs owned → Keeps self.new xs owned) }
+    {
+        self.connections.insert(connection, given.session)?;
+        let session = Session {
+            timeout: given.timeout,
+            password: given.password,
+            heard: now,
+            connection: Some(connection),
+            ephemerals: Vec::new(alloc),
+        };
+        if self.live.insert(given.session, session).is_err() {
+            self.connections.remove(&connection);
+            return Err(Memory);
+        }
+        Ok(())
+    }
+
+    /// A live session moves to a connection that has none. Without memory all is as it was.
+    pub(crate) fn move_to(&mut self, given: &Given, now: i64, connection: u32) -> Result<(), Memory>
+        ensures ok { OnOk result ((xs : List PlainSession) (owned : Owning) (x : PlainSession) → Keeps self.old xs owned
+            → session_of connection xs ≡ None → session_at given.now.session xs ≡ Some x
+            → Keeps self.new (with_moved given.now now connection xs) owned) }
+        ensures err { OnErr result ((xs : List PlainSession) (owned : Owning) → Keeps self.old xs owned → Keeps self.new xs owned) }
+    {
+        self.connections.insert(connection, given.session)?;
+        if let Some(live) = self.live.get_mut(&given.session) {
+            let before = live.connection.replace(connection);
+            live.timeout = given.timeout;
+            live.heard = now;
+            if let Some(before) = before {
+                self.connections.remove(&before);
+            }
+        }
+        Ok(())
+    }
+
+    /// A connection is lost; its session stays. Takes no memory.
+    pub(crate) fn lose(&mut self, connection: u32)
+        ensures { (xs : List PlainSession) (owned : Owning) → Keeps self.old xs owned
+            → Keeps self.new (map (without_connection connection) xs) owned }
+    {
+        if let Some(session) = self.connections.remove(&connection)
+            && let Some(live) = self.live.get_mut(&session)
+        {
+            live.connection = None;
+        }
+    }
+
+    /// A session makes an ephemeral node. Without memory all is as it was.
+    pub(crate) fn own(&mut self, alloc: Global, session: i64, path: &str) -> Result<(), Memory>
+        ensures ok { OnOk result ((xs : List PlainSession) (owned : Owning) (p : Path) → Keeps self.old xs owned → IsTextOf path.now p
+            → Keeps self.new xs (with_owned session p owned)) }
+        ensures err { OnErr result ((xs : List PlainSession) (owned : Owning) → Keeps self.old xs owned → Keeps self.new xs owned) }
+    {
+        if let Some(live) = self.live.get_mut(&session) {
+            live.ephemerals.push(path.to_string(alloc)?)?;
+        }
+        Ok(())
+    }
+
+    /// An ephemeral node of the session goes. The cost grows with the number of its ephemerals. Takes no memory.
+    pub(crate) fn disown(&mut self, session: i64, path: &str)
+        ensures { (xs : List PlainSession) (owned : Owning) (p : Path) → Keeps self.old xs owned → IsTextOf path.now p
+            → Keeps self.new xs (without_owned session p owned) }
+    {
+        if let Some(live) = self.live.get_mut(&session) {
+            live.ephemerals.retain(|text| text.as_str() != path);
+        }
+    }
+
+    /// Ends a session: it goes, and its connection, and the paths of its ephemerals are handed out in the order in which they
+    /// were made. Takes no memory.
+    pub(crate) fn end(&mut self, alloc: Global, session: i64) -> Vec<String>
+        ensures kept { (xs : List PlainSession) (owned : Owning) → Keeps self.old xs owned → Keeps self.new (without_session session xs) owned }
+        ensures paths { (xs : List PlainSession) (owned : Owning) (x : PlainSession) → Keeps self.old xs owned → session_at session xs ≡ Some x
+            → OwnTexts result.items (owned session) }
+    {
+        let Some(live) = self.live.remove(&session) else {
+            return Vec::new(alloc);
+        };
+        if let Some(connection) = live.connection {
+            self.connections.remove(&connection);
+        }
+        live.ephemerals
+    }
+}
+
+impl Session {
+    // The request has the password of this session.
+    fn has_password(&self, asked: &ConnectRequest) -> bool {
+        match &asked.password {
+            Some(password) => password.as_slice() == self.password.as_slice(),
+            None => false,
+        }
+    }
+}
+
+// What a connect is given that gets no session.
+fn no_session() -> Given {
+    Given {
+        session: 0,
+        timeout: 0,
+        password: [0; 16],
+    }
+}
