@@ -1,7 +1,8 @@
 //! What is kept of a node.
 
-ghost use Rattle.std.specs.Prelude.{◌≡◌, map, IfOk};
+ghost use Rattle.std.specs.Prelude.{◌≡◌, pos, min, map, IfOk};
 ghost use Rattle.std.specs.String.{string_bytes};
+ghost use Rattle.tree_state.specs.Nodes.{greatest_int};
 ghost use Rattle.tree_state.specs.Changes.{fresh_numbers};
 ghost use Rattle.tree_state.specs.Places.{IsSmall, IsRoot, kept_stat};
 
@@ -54,21 +55,24 @@ pub struct Node {
 impl Node {
     /// The Stat of the node. Takes no memory.
     pub(crate) fn stat(&self) -> Stat
-        requires { IsSmall self.now }
-        ensures { result ≡ kept_stat self.now }
+        ensures { IsSmall self.now → result ≡ kept_stat self.now }
     {
         let changes = self.numbers.creations.saturating_add(self.numbers.deletions);
+        let length = match &self.content {
+            Some(content) => content.len(),
+            None => 0,
+        };
         Stat {
             czxid: self.numbers.czxid,
             mzxid: self.numbers.mzxid,
             ctime: self.numbers.ctime,
             mtime: self.numbers.mtime,
-            version: self.numbers.version as i32,
-            cversion: changes.min(2_147_483_647) as i32,
-            aversion: self.numbers.aversion as i32,
+            version: int(self.numbers.version as usize),
+            cversion: int(changes as usize),
+            aversion: int(self.numbers.aversion as usize),
             owner: self.numbers.owner,
-            length: self.content.as_ref().map_or(0, Bytes::len) as i32,
-            children: self.names.len() as i32,
+            length: int(length),
+            children: int(self.names.len()),
             pzxid: self.numbers.pzxid,
         }
     }
@@ -93,6 +97,13 @@ impl Node {
         }
         Ok(Texts::of(names))
     }
+}
+
+// A count as an int, which ends at the greatest one.
+fn int(count: usize) -> i32
+    ensures { result ≡ pos (min count greatest_int) }
+{
+    i32::try_from(count).unwrap_or(i32::MAX)
 }
 
 // The root, which has had so many creations.

@@ -1,6 +1,6 @@
 //! The live sessions and their connections.
 
-ghost use Rattle.std.specs.Prelude.{◌≡◌, ◌<ℤ◌, ℕ, ℤ, pos, List, [], ◌∷◌, ◌++◌, Bool, true, false, Some, None, if◌then◌else◌, map, filter, IfOk, IfErr, OnOk, OnErr};
+ghost use Rattle.std.specs.Prelude.{◌≡◌, ◌<ℤ◌, ℕ, ℤ, pos, List, [], ◌∷◌, ◌++◌, Bool, true, false, Some, None, is_some, map, filter, IfOk, IfErr, OnOk, OnErr};
 ghost use Rattle.std.specs.String.{string_bytes};
 ghost use Rattle.zk_path.specs.Paths.{text_of};
 ghost use Rattle.tree_state.specs.Commands.{IsTextOf};
@@ -57,6 +57,23 @@ impl Sessions {
         ensures { (xs : List PlainSession) (owned : Owning) → Keeps self.now xs owned → result ≡ session_of connection xs }
     {
         self.connections.get(&connection).copied()
+    }
+
+    /// Whether the session is live. Takes no memory.
+    pub(crate) fn is_live(&self, session: i64) -> bool
+        ensures { (xs : List PlainSession) (owned : Owning) → Keeps self.now xs owned → result ≡ is_some (session_at session xs) }
+    {
+        self.live.contains_key(&session)
+    }
+
+    /// The time at which a live session was last heard. Takes no memory.
+    pub(crate) fn heard(&self, session: i64) -> i64
+        ensures { (xs : List PlainSession) (owned : Owning) (x : PlainSession) → Keeps self.now xs owned → session_at session xs ≡ Some x → result ≡ x.heard }
+    {
+        match self.live.get(&session) {
+            Some(live) => live.heard,
+            None => 0,
+        }
     }
 
     /// The session is heard. Takes no memory.
