@@ -6,9 +6,11 @@ mod held;
 mod message;
 mod node;
 mod places;
+mod scratch;
 mod session;
 mod texts;
 mod tree;
 
 pub use message::{Message, Output, Outputs};
+pub use scratch::probe;
 pub use tree::Tree;
