@@ -5,3 +5,4 @@ pub mod PathTexts
 pub mod Found
 pub mod Entries
 pub mod Lookups
+pub mod Kept
