@@ -6,3 +6,5 @@ pub mod Found
 pub mod Entries
 pub mod Lookups
 pub mod Kept
+pub mod Root
+pub mod Copied
