@@ -34,18 +34,19 @@ steady_changed p q f n es h =
       acls = h.acls;
       came = h.came;
       went = subst (λ (names : List (List ℕ)). n.numbers.deletions + length names ≤ n.numbers.creations) (sym (children_changed p q f es)) h.went;
-      short = h.short
+      short = h.short;
     }
 
 all_steady : (p : Path) (f : Node → Node) (b : Node) (es : List Place) → find es p ≡ Some b → IsSteady es p (f b) → ((q : Path) (n : Node) → find es q ≡ Some n → IsSteady es q n)
     → (q : Path) (n : Node) → find (change p f es) q ≡ Some n → IsSteady (change p f es) q n
 all_steady p f b es found new old q n h = elim (cases_Bool (same_path p q)) [
-    inl i ↦
+  | inl i ↦
       let here = same_path-true p q i in
       let now : find (change p f es) q ≡ Some (f b) = subst (λ (r : Path). find (change p f es) r ≡ Some (f b)) here (find_changed-same p f b es found) in
       let same : f b ≡ n = cc in
       steady_changed p q f n es (subst (λ (x : Node). IsSteady es q x) same (subst (λ (r : Path). IsSteady es r (f b)) here new))
-  | inr i ↦ steady_changed p q f n es (old q n (sym (find_changed-other p q f es i) ∙ h)) ]
+  | inr i ↦ steady_changed p q f n es (old q n (sym (find_changed-other p q f es i) ∙ h))
+]
 
 -- A written node that has the names of the old one and is steady: the map holds the changed nodes.
 pub change_holds : (t u : Places) (es : List Place) (text : List ℕ) (p : Path) (f : Node → Node) (v w : code.Node) → Holds t es → IsTextOf text p
@@ -57,11 +58,11 @@ change_holds t u es text p f v w h k l e same steady eu =
       apart = apart_changed p f es h.apart;
       texts = subst (All HasText) (sym eu) (texts_set (at_text text) t.nodes.entries w h.texts);
       names = subst (All (HasNames (change p f es))) (sym eu)
-        (all_set (HasNames es) (HasNames (change p f es)) text p t.nodes.entries v w k h.texts (apart_entries t es h) l
+          (all_set (HasNames es) (HasNames (change p f es)) text p t.nodes.entries v w k h.texts (apart_entries t es h) l
           (λ x legal far n. n ∙ sym (child_names_changed p (path_at x) f es))
           (λ key here n. names_changed es p f key v w same n) h.names);
       rooted = rooted_changed p f es h.rooted;
-      steady = all_steady p f (node_of v) es (find_holds t es text p h k ∙ ap (option_map node_of) l) steady h.steady
+      steady = all_steady p f (node_of v) es (find_holds t es text p h k ∙ ap (option_map node_of) l) steady h.steady;
     }
 
 -- the node that is found is that of the map

@@ -1,5 +1,5 @@
 -- The map of the root alone.
-use Rattle.std.proofs.Common.{◌≡◌, ◌≤◌, ℕ, zero-le, true, false, List, [], ◌∷◌, Option, Some, None, String, Global, string_bytes, string_cmp, codes, map, refl, sym, ap, subst, ◌∙◌, arith}
+use Rattle.std.proofs.Common.{◌≡◌, ◌≤◌, ℕ, zero-le, List, [], ◌∷◌, Some, None, String, Global, string_bytes, string_cmp, codes, map, refl, sym, ap, subst, ◌∙◌, arith}
 use Rattle.std.specs.Prelude.{All}
 use Rattle.std.specs.BTreeMap.{insert_entry}
 use Rattle.std.proofs.lemmas.List.Elements.{All-nil, All-cons}
@@ -10,7 +10,7 @@ use Rattle.tree_state.specs.Commands.{IsTextOf}
 use Rattle.tree_state.specs.Nodes.{Path, Node, Place, same_path, find, is_there, name_under, name_of_child, children, child_names, in_order, size_of, greatest_int}
 use Rattle.tree_state.specs.State.{start_at, first_numbers}
 use Rattle.tree_state.specs.Shuffles.{Shuffles}
-use Rattle.tree_state.specs.Places.{path_of, Entry, path_at, node_of, place_of, HasText, HasNames, IsApart, IsRooted, IsSteady, Holds, IsRoot}
+use Rattle.tree_state.specs.Places.{path_of, Entry, node_of, place_of, HasText, HasNames, IsApart, IsRooted, IsSteady, Holds, IsRoot}
 use Rattle.tree_state.proofs.Reorder.{same_order}
 use Rattle.tree_state.proofs.PathTexts.{path_of-IsTextOf, IsTextOf-path_of}
 
@@ -47,7 +47,7 @@ unfolding find same_path root_place root_node first_numbers children name_of_chi
 root_steady creations low [] n h =
     let same : root_node creations ≡ n = cc in
     subst (λ (x : Node). IsSteady (root_place creations ∷ []) [] x) same
-      (record { versions = omega arith; acls = omega arith; came = low; went = zero-le; short = omega arith })
+    (record { versions = omega arith; acls = omega arith; came = low; went = zero-le; short = omega arith })
 root_steady creations low (m ∷ p) n h = absurd cc
 
 -- the root is put into an empty map
@@ -60,11 +60,11 @@ root_holds t old k v creations text root low empty put =
     let named : HasNames (root_place creations ∷ []) (k, v) = ap (map string_bytes) root.alone ∙ sym (no_child_names (path_of (string_bytes k)) creations) in
     record {
       places = subst (λ (xs : List Entry). Shuffles (map place_of xs) (root_place creations ∷ [])) (sym e)
-        (subst (λ (x : Place). Shuffles (x ∷ []) (root_place creations ∷ [])) (sym placed) (same_order (root_place creations ∷ [])));
+          (subst (λ (x : Place). Shuffles (x ∷ []) (root_place creations ∷ [])) (sym placed) (same_order (root_place creations ∷ [])));
       apart = root_apart creations;
       texts = subst (All HasText) (sym e) (All-cons HasText (k, v) [] (IsTextOf-path_of (string_bytes k) [] (root_text (string_bytes k) text)) (All-nil HasText));
       names = subst (All (HasNames (root_place creations ∷ []))) (sym e)
-        (All-cons (HasNames (root_place creations ∷ [])) (k, v) [] named (All-nil (HasNames (root_place creations ∷ []))));
+          (All-cons (HasNames (root_place creations ∷ [])) (k, v) [] named (All-nil (HasNames (root_place creations ∷ []))));
       rooted = root_rooted creations;
-      steady = root_steady creations low
+      steady = root_steady creations low;
     }
