@@ -5,3 +5,6 @@ pub mod PathTexts
 pub mod Found
 pub mod Entries
 pub mod Lookups
+pub mod NameSets
+pub mod ChildNames
+pub mod CountedChildren
