@@ -17,10 +17,6 @@ use Rattle.tree_state.proofs.NameSets.{has_name}
 
 -- ---- the list and its order
 
-pub length-child_names : (p : Path) (es : List Place) → length (child_names p es) ≡ length (children p es)
-unfolding child_names
-length-child_names p es = sym (length-Shuffles _ _ (Shuffles-in_order (children p es)))
-
 has_name-Shuffles : (n : List ℕ) (xs ys : List (List ℕ)) → Shuffles xs ys → has_name n xs ≡ has_name n ys
 has_name-Shuffles n xs ys nothing = refl
 has_name-Shuffles n xs ys (kept x us vs h) = ap (λ (b : Bool). bytes_eq x n || b) (has_name-Shuffles n us vs h)

@@ -8,3 +8,6 @@ pub mod Lookups
 pub mod NameSets
 pub mod ChildNames
 pub mod CountedChildren
+pub mod ParentWritten
+pub mod Added
+pub mod Undone
