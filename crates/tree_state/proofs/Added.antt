@@ -3,10 +3,12 @@ use Rattle.std.proofs.Common.{◌≡◌, ℕ, ℤ, ◌<◌, ◌≤◌, ◌+◌, 
 use Rattle.std.specs.Prelude.{All}
 use Rattle.std.specs.Map.{lookup, set_value}
 use Rattle.std.specs.BTreeMap.{insert_entry}
+use Rattle.std.specs.BTreeSet.{BTreeSet}
 use Rattle.std.proofs.lemmas.Bool.{cases_Bool}
 use Rattle.zk_path.specs.Paths.{text_of}
 use Rattle.tree_state.specs.declared.node.Node as code
 use Rattle.tree_state.specs.declared.node.Moment.{Moment}
+use Rattle.tree_state.specs.declared.node.Numbers.{Numbers}
 use Rattle.tree_state.specs.declared.places.Places.{Places}
 use Rattle.tree_state.specs.Changes.{fresh_numbers, with_creation}
 use Rattle.tree_state.specs.Commands.{IsTextOf}
@@ -145,3 +147,8 @@ holds_added t u w es text upper n p up key name value z at ephemeral content h s
       rooted = rooted_added n p node changed there (rooted_changed p f es h.rooted);
       steady = added_steady es n p z up at ephemeral content h.rooted h.steady absent found low short;
     }
+
+pub fresh_value : (content : Option (List ℕ)) (numbers : Numbers) (names : BTreeSet (String Global)) (at : Moment) (ephemeral : Bool) → numbers ≡ fresh_numbers at ephemeral
+    → node_of (record { content = content; numbers = numbers; names = names }) ≡ record { content = content; numbers = fresh_numbers at ephemeral }
+unfolding node_of
+fresh_value content numbers names at ephemeral e = ap (λ (x : Numbers). record { content = content; numbers = x }) e
