@@ -11,3 +11,4 @@ pub mod CountedChildren
 pub mod ParentWritten
 pub mod Added
 pub mod Undone
+pub mod Removed
