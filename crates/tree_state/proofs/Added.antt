@@ -22,7 +22,7 @@ use Rattle.tree_state.proofs.Found.{found_there, there_changed, apart_changed, f
 use Rattle.tree_state.proofs.Entries.{at_text, there_holds, insert_places, all_inserted, texts_inserted, texts_set}
 use Rattle.tree_state.proofs.NameSets.{has_name, insert_name}
 use Rattle.tree_state.proofs.ChildNames.{has_child_name, names_changed, names_added-same, names_added-other, count_added, no_children, no_names, rooted_changed, rooted_added}
-use Rattle.tree_state.proofs.ParentWritten.{AreNodes, value_of, written_places, written_names}
+use Rattle.tree_state.proofs.ParentWritten.{AreNodes, value_of, written_places, written_names, other_steady}
 
 -- ---- the counts
 
@@ -40,11 +40,7 @@ parent_steady es fs p z n h low count =
     let went = h.went in
     record { versions = h.versions; acls = h.acls; came = omega arith; went = omega arith; short = h.short }
 
-other_steady : (es fs : List Place) (q : Path) (n : Node) → IsSteady es q n → children q fs ≡ children q es → IsSteady fs q n
-other_steady es fs q n h same =
-    record { versions = h.versions; acls = h.acls; came = h.came; went = subst (λ (ns : List (List ℕ)). n.numbers.deletions + length ns ≤ n.numbers.creations) (sym same) h.went; short = h.short }
-
-pub added_steady : (es : List Place) (n : List ℕ) (p : Path) (z : ℤ) (up : Node) (at : Moment) (ephemeral : Bool) (content : Option (List ℕ))
+added_steady : (es : List Place) (n : List ℕ) (p : Path) (z : ℤ) (up : Node) (at : Moment) (ephemeral : Bool) (content : Option (List ℕ))
     → IsRooted es → ((q : Path) (x : Node) → find es q ≡ Some x → IsSteady es q x)
     → is_there es (n ∷ p) ≡ false → find es p ≡ Some up → up.numbers.creations < greatest_int → size_of content ≤ content_limit
     → (q : Path) (x : Node) → find (add (n ∷ p) (record { content = content; numbers = fresh_numbers at ephemeral }) (change p (with_creation z) es)) q ≡ Some x

@@ -14,6 +14,7 @@ use Rattle.std.specs.declared.cmp.Ordering.TheVariants.{Less, Equal, Greater}
 use Rattle.std.proofs.lemmas.Bool.{cases_Bool}
 use Rattle.std.proofs.lemmas.Map.Text.{is_eq-slice_cmp}
 use Rattle.std.proofs.lemmas.Slice.Eq.{bytes_eq-Decides}
+use Rattle.tree_state.specs.Counts.{is_at_text}
 use Rattle.tree_state.specs.Nodes.{text_le, placed}
 use Rattle.tree_state.proofs.ByteOrder.{placed_before, placed_after, placed_alone}
 
@@ -21,9 +22,9 @@ use Rattle.tree_state.proofs.ByteOrder.{placed_before, placed_after, placed_alon
 abbrev pub has_name : List ℕ → List (List ℕ) → Bool
 has_name n ms = list_any (λ m. bytes_eq m n) ms
 
--- a query by a text's bytes
-abbrev pub at_name : List ℕ → String Global → Bool
-at_name n k = is_eq (slice_cmp nat_cmp n (string_bytes k))
+-- the name is this one, as the set tests it
+abbrev is_name : List ℕ → List ℕ → Bool
+is_name n m = is_eq (slice_cmp nat_cmp n m)
 
 -- the order of texts is that of the set
 le_by_cmp : (x y : List ℕ) → text_le x y ≡ is_le (slice_cmp nat_cmp x y)
@@ -42,14 +43,14 @@ first_not : (a b : Bool) → (a || b) ≡ false → (a ≡ false) × (b ≡ fals
 first_not true b h = absurd cc
 first_not false b h = (refl, h)
 
-equal_so : (x y : List ℕ) → x ≡ y → is_eq (slice_cmp nat_cmp x y) ≡ true
-equal_so x y h = is_eq-slice_cmp x y ∙ (bytes_eq-Decides x y).1 h
+is_name-refl : (n : List ℕ) → is_name n n ≡ true
+is_name-refl n = is_eq-slice_cmp n n ∙ (bytes_eq-Decides n n).1 refl
 
 -- a name that differs is not found
-other_so : (x y : List ℕ) → bytes_eq y x ≡ false → is_eq (slice_cmp nat_cmp x y) ≡ false
-other_so x y h =
-    elim (cases_Bool (is_eq (slice_cmp nat_cmp x y))) [
-      inl k ↦ let e : x ≡ y = (bytes_eq-Decides x y).0 (sym (is_eq-slice_cmp x y) ∙ k) in let f = (bytes_eq-Decides y x).1 (sym e) in absurd cc
+is_name-other : (n m : List ℕ) → bytes_eq m n ≡ false → is_name n m ≡ false
+is_name-other n m h =
+    elim (cases_Bool (is_name n m)) [
+      inl k ↦ let e : n ≡ m = (bytes_eq-Decides n m).0 (sym (is_eq-slice_cmp n m) ∙ k) in let f = (bytes_eq-Decides m n).1 (sym e) in absurd cc
     | inr k ↦ k ]
 
 -- a new name goes to its place
@@ -64,36 +65,36 @@ insert_name (x ∷ ks) k h =
         → map string_bytes (insert_key string_cmp ks k) ≡ placed (string_bytes k) (map string_bytes ks)
         → map string_bytes (match_ordering o (k ∷ x ∷ ks) (x ∷ ks) (x ∷ insert_key string_cmp ks k)) ≡ placed (string_bytes k) (string_bytes x ∷ map string_bytes ks)
     go Less i apart ih = sym (placed_before _ _ _ (le_by_cmp (string_bytes k) (string_bytes x) ∙ ap is_le i))
-    go Equal i apart ih = let f = other_so (string_bytes k) (string_bytes x) apart in let g = ap is_eq i in absurd cc
+    go Equal i apart ih = let f = is_name-other (string_bytes k) (string_bytes x) apart in let g = ap is_eq i in absurd cc
     go Greater i apart ih = ap (λ (l : List (List ℕ)). string_bytes x ∷ l) ih ∙ sym (placed_after _ _ _ (le_by_cmp (string_bytes k) (string_bytes x) ∙ ap is_le i))
 
-removed_names : (n : List ℕ) (ks : List (String Global)) → map string_bytes (remove_key (at_name n) ks) ≡ remove_key (λ m. is_eq (slice_cmp nat_cmp n m)) (map string_bytes ks)
+removed_names : (n : List ℕ) (ks : List (String Global)) → map string_bytes (remove_key (is_at_text n) ks) ≡ remove_key (is_name n) (map string_bytes ks)
 removed_names n [] = refl
-removed_names n (x ∷ ks) = go (at_name n x) (removed_names n ks)
+removed_names n (x ∷ ks) = go (is_at_text n x) (removed_names n ks)
   where
-    go : (b : Bool) → map string_bytes (remove_key (at_name n) ks) ≡ remove_key (λ m. is_eq (slice_cmp nat_cmp n m)) (map string_bytes ks)
-        → map string_bytes (cond b ks (x ∷ remove_key (at_name n) ks)) ≡ cond b (map string_bytes ks) (string_bytes x ∷ remove_key (λ m. is_eq (slice_cmp nat_cmp n m)) (map string_bytes ks))
+    go : (b : Bool) → map string_bytes (remove_key (is_at_text n) ks) ≡ remove_key (is_name n) (map string_bytes ks)
+        → map string_bytes (cond b ks (x ∷ remove_key (is_at_text n) ks)) ≡ cond b (map string_bytes ks) (string_bytes x ∷ remove_key (is_name n) (map string_bytes ks))
     go true ih = refl
     go false ih = ap (λ (l : List (List ℕ)). string_bytes x ∷ l) ih
 
-remove_here : (n : List ℕ) (ms : List (List ℕ)) → remove_key (λ m. is_eq (slice_cmp nat_cmp n m)) (n ∷ ms) ≡ ms
-remove_here n ms = ap (λ (b : Bool). cond b ms (n ∷ remove_key (λ m. is_eq (slice_cmp nat_cmp n m)) ms)) (equal_so n n refl)
+remove_here : (n : List ℕ) (ms : List (List ℕ)) → remove_key (is_name n) (n ∷ ms) ≡ ms
+remove_here n ms = ap (λ (b : Bool). cond b ms (n ∷ remove_key (is_name n) ms)) (is_name-refl n)
 
 remove_later : (n m : List ℕ) (ms : List (List ℕ)) → bytes_eq m n ≡ false
-    → remove_key (λ m. is_eq (slice_cmp nat_cmp n m)) (m ∷ ms) ≡ m ∷ remove_key (λ m. is_eq (slice_cmp nat_cmp n m)) ms
-remove_later n m ms h = ap (λ (b : Bool). cond b ms (m ∷ remove_key (λ m. is_eq (slice_cmp nat_cmp n m)) ms)) (other_so n m h)
+    → remove_key (is_name n) (m ∷ ms) ≡ m ∷ remove_key (is_name n) ms
+remove_later n m ms h = ap (λ (b : Bool). cond b ms (m ∷ remove_key (is_name n) ms)) (is_name-other n m h)
 
 -- a name that was placed is taken out
-placed_removed : (n : List ℕ) (ms : List (List ℕ)) → has_name n ms ≡ false → remove_key (λ m. is_eq (slice_cmp nat_cmp n m)) (placed n ms) ≡ ms
-placed_removed n [] h = ap (remove_key (λ m. is_eq (slice_cmp nat_cmp n m))) (placed_alone n) ∙ remove_here n []
+placed_removed : (n : List ℕ) (ms : List (List ℕ)) → has_name n ms ≡ false → remove_key (is_name n) (placed n ms) ≡ ms
+placed_removed n [] h = ap (remove_key (is_name n)) (placed_alone n) ∙ remove_here n []
 placed_removed n (m ∷ ms) h =
     let apart = first_not _ _ h in
     elim (cases_Bool (text_le n m)) [
-      inl a ↦ ap (remove_key (λ m. is_eq (slice_cmp nat_cmp n m))) (placed_before n m ms a) ∙ remove_here n (m ∷ ms)
-    | inr a ↦ ap (remove_key (λ m. is_eq (slice_cmp nat_cmp n m))) (placed_after n m ms a) ∙ remove_later n m (placed n ms) apart.0
+      inl a ↦ ap (remove_key (is_name n)) (placed_before n m ms a) ∙ remove_here n (m ∷ ms)
+    | inr a ↦ ap (remove_key (is_name n)) (placed_after n m ms a) ∙ remove_later n m (placed n ms) apart.0
         ∙ ap (λ (l : List (List ℕ)). m ∷ l) (placed_removed n ms apart.1) ]
 
 -- a set without a name that stands there once
 pub remove_name : (n : List ℕ) (ks : List (String Global)) (ms : List (List ℕ)) → map string_bytes ks ≡ placed n ms → has_name n ms ≡ false
-    → map string_bytes (remove_key (at_name n) ks) ≡ ms
-remove_name n ks ms e h = removed_names n ks ∙ ap (remove_key (λ m. is_eq (slice_cmp nat_cmp n m))) e ∙ placed_removed n ms h
+    → map string_bytes (remove_key (is_at_text n) ks) ≡ ms
+remove_name n ks ms e h = removed_names n ks ∙ ap (remove_key (is_name n)) e ∙ placed_removed n ms h

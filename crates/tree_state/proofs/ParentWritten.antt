@@ -1,11 +1,11 @@
 -- The value of one key is written, after a key came or went: what the map holds then.
-use Rattle.std.proofs.Common.{◌≡◌, ℕ, Bool, false, List, Option, Some, None, String, Global, string_bytes, map, option_map, refl, sym, ap, subst, ◌∙◌}
+use Rattle.std.proofs.Common.{◌≡◌, ℕ, ◌≤◌, ◌+◌, length, Bool, false, List, Option, Some, None, String, Global, string_bytes, map, option_map, refl, sym, ap, subst, ◌∙◌}
 use Rattle.std.specs.Prelude.{All}
 use Rattle.std.specs.Map.{lookup, set_value}
 use Rattle.tree_state.specs.declared.node.Node as code
 use Rattle.tree_state.specs.Commands.{IsTextOf}
-use Rattle.tree_state.specs.Nodes.{Path, Node, Place, same_path, find, change, child_names}
-use Rattle.tree_state.specs.Places.{path_of, Entry, path_at, node_of, place_of, HasText, HasNames, IsApart}
+use Rattle.tree_state.specs.Nodes.{Path, Node, Place, same_path, find, change, children, child_names}
+use Rattle.tree_state.specs.Places.{path_of, Entry, path_at, node_of, place_of, HasText, HasNames, IsApart, IsSteady}
 use Rattle.tree_state.proofs.Reorder.{Shuffles, Shuffles-sym, apart-Shuffles, find-Shuffles, change-Shuffles}
 use Rattle.tree_state.proofs.Entries.{at_text, find_entries, set_entries, all_set, texts_set}
 
@@ -44,3 +44,8 @@ written_names xs es named after text p v w h k l other here =
     (λ e t far names. names ∙ sym (other (path_at e) far))
     (λ key same names. here (names ∙ ap (λ (q : Path). child_names q named) same) ∙ ap (λ (q : Path). child_names q after) (sym same))
     h.names
+
+-- a node with the children that it had is steady as it was
+pub other_steady : (es fs : List Place) (q : Path) (n : Node) → IsSteady es q n → children q fs ≡ children q es → IsSteady fs q n
+other_steady es fs q n h same =
+    record { versions = h.versions; acls = h.acls; came = h.came; went = subst (λ (ns : List (List ℕ)). n.numbers.deletions + length ns ≤ n.numbers.creations) (sym same) h.went; short = h.short }

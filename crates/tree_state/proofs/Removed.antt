@@ -8,7 +8,7 @@ use Rattle.tree_state.specs.declared.node.Node as code
 use Rattle.tree_state.specs.declared.places.Places.{Places}
 use Rattle.tree_state.specs.Changes.{with_deletion}
 use Rattle.tree_state.specs.Commands.{IsTextOf}
-use Rattle.tree_state.specs.Counts.{with_child, without_child, IsCountedOut}
+use Rattle.tree_state.specs.Counts.{without_child, IsCountedOut}
 use Rattle.tree_state.specs.Nodes.{Path, Node, Place, same_path, find, is_there, changed_at, change, is_elsewhere, remove, children, child_names, has_children, placed, greatest_int}
 use Rattle.tree_state.specs.Places.{path_at, Entry, node_of, place_of, HasText, HasNames, IsApart, IsRooted, IsSteady, Holds}
 use Rattle.tree_state.proofs.SamePaths.{same_path-true, same_path-above, same_path-sym}
@@ -18,7 +18,7 @@ use Rattle.tree_state.proofs.Found.{found_there, there_node, there_changed, apar
 use Rattle.tree_state.proofs.Entries.{at_text, remove_places, all_removed, texts_removed, texts_set}
 use Rattle.tree_state.proofs.NameSets.{has_name, remove_name}
 use Rattle.tree_state.proofs.ChildNames.{has_child_name, names_changed, names_removed-same, names_removed-other, count_removed, rooted_changed, rooted_removed}
-use Rattle.tree_state.proofs.ParentWritten.{AreNodes, value_of, written_places, written_names}
+use Rattle.tree_state.proofs.ParentWritten.{AreNodes, value_of, written_places, written_names, other_steady}
 
 -- a change leaves each node at its path
 elsewhere_changed : (p q : Path) (f : Node → Node) (e : Place) → is_elsewhere q (changed_at p f e) ≡ is_elsewhere q e
@@ -50,10 +50,6 @@ unfolding with_deletion
 parent_steady es fs p z n h count =
     let went = h.went in
     record { versions = h.versions; acls = h.acls; came = h.came; went = omega arith; short = h.short }
-
-other_steady : (es fs : List Place) (q : Path) (n : Node) → IsSteady es q n → children q fs ≡ children q es → IsSteady fs q n
-other_steady es fs q n h same =
-    record { versions = h.versions; acls = h.acls; came = h.came; went = subst (λ (ns : List (List ℕ)). n.numbers.deletions + length ns ≤ n.numbers.creations) (sym same) h.went; short = h.short }
 
 one_child_less : (es : List Place) (n : List ℕ) (p : Path) (f : Node → Node) → IsApart es → is_there es (n ∷ p) ≡ true
     → length (children p es) ≡ length (children p (remove (n ∷ p) (change p f es))) + 1
