@@ -12,3 +12,4 @@ pub mod ParentWritten
 pub mod Added
 pub mod Undone
 pub mod Removed
+pub mod Kept

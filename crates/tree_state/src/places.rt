@@ -119,10 +119,7 @@ impl Places {
             → Holds self.new (change p (with_content at.now content) es) }
     {
         if let Some(node) = self.nodes.get_mut(path) {
-            node.content = content;
-            node.numbers.mzxid = at.zxid;
-            node.numbers.mtime = at.time;
-            node.numbers.version = node.numbers.version.saturating_add(1);
+            node.set_content(content, at);
         }
     }
 
@@ -133,7 +130,7 @@ impl Places {
             → Holds self.new (change p with_acl es) }
     {
         if let Some(node) = self.nodes.get_mut(path) {
-            node.numbers.aversion = node.numbers.aversion.saturating_add(1);
+            node.count_acl();
         }
     }
 }
