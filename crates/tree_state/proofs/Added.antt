@@ -1,7 +1,7 @@
 -- A node is added under a parent: what the map holds then.
-use Rattle.std.proofs.Common.{◌≡◌, ℕ, ℤ, ◌<◌, ◌≤◌, ◌+◌, Bool, true, false, List, [], ◌∷◌, Option, Some, None, length, String, Global, string_bytes, string_cmp, map, refl, sym, ap, subst, ◌∙◌, arith, inl, inr}
+use Rattle.std.proofs.Common.{◌≡◌, ℕ, ℤ, ◌<◌, ◌≤◌, ◌+◌, Bool, true, false, List, [], ◌∷◌, Option, Some, length, String, Global, string_bytes, string_cmp, map, refl, sym, ap, subst, ◌∙◌, arith, inl, inr}
 use Rattle.std.specs.Prelude.{All}
-use Rattle.std.specs.Map.{lookup, set_value}
+use Rattle.std.specs.Map.{set_value}
 use Rattle.std.specs.BTreeMap.{insert_entry}
 use Rattle.std.specs.BTreeSet.{BTreeSet}
 use Rattle.std.proofs.lemmas.Bool.{cases_Bool}
@@ -14,7 +14,7 @@ use Rattle.tree_state.specs.Changes.{fresh_numbers, with_creation}
 use Rattle.tree_state.specs.Commands.{IsTextOf}
 use Rattle.tree_state.specs.Counts.{with_child, IsCountedIn}
 use Rattle.tree_state.specs.Nodes.{Path, Node, Place, same_path, find, is_there, change, add, children, child_names, placed, size_of, greatest_int}
-use Rattle.tree_state.specs.Places.{path_of, path_at, Entry, node_of, place_of, HasText, HasNames, IsApart, IsRooted, IsSteady, Holds, content_limit}
+use Rattle.tree_state.specs.Places.{path_of, Entry, node_of, place_of, HasText, HasNames, IsRooted, IsSteady, Holds, content_limit}
 use Rattle.tree_state.proofs.SamePaths.{same_path-true, same_path-above, same_path-sym}
 use Rattle.tree_state.proofs.Reorder.{Shuffles}
 use Rattle.tree_state.proofs.PathTexts.{path_of-IsTextOf, legal_above}

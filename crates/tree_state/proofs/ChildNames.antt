@@ -1,5 +1,5 @@
 -- The names of a node's children after each change of the nodes.
-use Rattle.std.proofs.Common.{◌≡◌, ℕ, ◌+◌, suc, Bool, true, false, cond, not, List, [], ◌∷◌, ◌++◌, Option, Some, None, length, refl, sym, ap, subst, ◌∙◌, arith, inl, inr}
+use Rattle.std.proofs.Common.{◌≡◌, ℕ, ◌+◌, Bool, true, false, cond, not, List, [], ◌∷◌, Some, None, length, refl, sym, ap, subst, ◌∙◌, arith, inl, inr}
 use Rattle.std.specs.Prelude.{◌⊎◌, ◌&&◌, ◌||◌, ◌==◌}
 use Rattle.std.specs.List.{IsDistinct, AllByRecursion, cons_option}
 use Rattle.std.specs.Str.{bytes_eq}
@@ -11,7 +11,7 @@ use Rattle.tree_state.specs.Places.{IsApart, IsRooted}
 use Rattle.tree_state.specs.Shuffles.{Shuffles, nothing, kept, swapped, joined}
 use Rattle.tree_state.proofs.ByteOrder.{in_order-Shuffles, Shuffles-in_order}
 use Rattle.tree_state.proofs.Reorder.{length-Shuffles, front-Shuffles}
-use Rattle.tree_state.proofs.SamePaths.{same_path-true, same_path-refl, same_path-from, same_path-sym}
+use Rattle.tree_state.proofs.SamePaths.{same_path-true, same_path-from, same_path-sym}
 use Rattle.tree_state.proofs.Found.{there_changed, children_changed, there_added-same, there_added-other, children_added-same, children_added-other, there_removed-same, there_removed-other, children_removed-same, children_removed-other}
 use Rattle.tree_state.proofs.NameSets.{has_name}
 

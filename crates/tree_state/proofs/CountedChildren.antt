@@ -1,12 +1,11 @@
 -- A value of the map that is written back with one child more, or one less.
-use Rattle.std.proofs.Common.{◌≡◌, ℕ, ℤ, ◌<◌, ◌+◌, min, List, Option, Some, Result, Ok, Err, OnErr, String, Global, refl, sym, ap, subst, ◌∙◌, arith}
+use Rattle.std.proofs.Common.{◌≡◌, ℕ, ℤ, ◌<◌, ◌+◌, min, List, Some, Result, Ok, Err, OnErr, String, Global, sym, ap, subst, ◌∙◌, arith}
 use Rattle.std.specs.BTreeSet.{BTreeSet, insert_key}
 use Rattle.std.specs.Map.{lookup, set_value}
 use Rattle.std.specs.Set.{remove_key}
 use Rattle.std.specs.String.{string_cmp}
 use Rattle.std.proofs.lemmas.Map.Steps.{set_value_same}
 use Rattle.tree_state.specs.declared.node.Node as code
-use Rattle.tree_state.specs.declared.node.Numbers.{Numbers}
 use Rattle.tree_state.specs.Nodes.{greatest_int}
 use Rattle.tree_state.specs.Places.{Entry}
 use Rattle.tree_state.specs.Counts.{is_at_text, with_child, without_child, IsCountedIn, IsCountedOut}

@@ -1,13 +1,13 @@
 -- The value of one key is written, after a key came or went: what the map holds then.
-use Rattle.std.proofs.Common.{◌≡◌, ℕ, ◌≤◌, ◌+◌, length, Bool, false, List, Option, Some, None, String, Global, string_bytes, map, option_map, refl, sym, ap, subst, ◌∙◌}
+use Rattle.std.proofs.Common.{◌≡◌, ℕ, ◌≤◌, ◌+◌, length, false, List, Option, Some, None, string_bytes, map, option_map, refl, sym, ap, subst, ◌∙◌}
 use Rattle.std.specs.Prelude.{All}
 use Rattle.std.specs.Map.{lookup, set_value}
 use Rattle.tree_state.specs.declared.node.Node as code
 use Rattle.tree_state.specs.Commands.{IsTextOf}
 use Rattle.tree_state.specs.Nodes.{Path, Node, Place, same_path, find, change, children, child_names}
-use Rattle.tree_state.specs.Places.{path_of, Entry, path_at, node_of, place_of, HasText, HasNames, IsApart, IsSteady}
+use Rattle.tree_state.specs.Places.{Entry, path_at, node_of, place_of, HasText, HasNames, IsApart, IsSteady}
 use Rattle.tree_state.proofs.Reorder.{Shuffles, Shuffles-sym, apart-Shuffles, find-Shuffles, change-Shuffles}
-use Rattle.tree_state.proofs.Entries.{at_text, find_entries, set_entries, all_set, texts_set}
+use Rattle.tree_state.proofs.Entries.{at_text, find_entries, set_entries, all_set}
 
 -- the entries are those nodes, and have the names of children as these nodes say
 pub record AreNodes (xs : List Entry) (es named : List Place) : Type 0 where

@@ -1,7 +1,7 @@
 -- A node without children goes: what the map holds then.
-use Rattle.std.proofs.Common.{◌≡◌, ℕ, ℤ, ◌<◌, ◌≤◌, ◌+◌, Bool, true, false, cond, not, List, [], ◌∷◌, Option, Some, None, length, String, Global, string_bytes, map, filter, refl, sym, ap, subst, ◌∙◌, arith, inl, inr}
+use Rattle.std.proofs.Common.{◌≡◌, ℕ, ℤ, ◌<◌, ◌+◌, Bool, true, false, cond, not, List, [], ◌∷◌, Some, length, string_bytes, map, filter, refl, sym, ap, subst, ◌∙◌, arith, inl, inr}
 use Rattle.std.specs.Prelude.{All, ◌==◌}
-use Rattle.std.specs.Map.{lookup, set_value, remove_entry}
+use Rattle.std.specs.Map.{set_value, remove_entry}
 use Rattle.std.proofs.lemmas.Bool.{cases_Bool}
 use Rattle.zk_path.specs.Paths.{text_of}
 use Rattle.tree_state.specs.declared.node.Node as code
@@ -10,11 +10,11 @@ use Rattle.tree_state.specs.Changes.{with_deletion}
 use Rattle.tree_state.specs.Commands.{IsTextOf}
 use Rattle.tree_state.specs.Counts.{without_child, IsCountedOut}
 use Rattle.tree_state.specs.Nodes.{Path, Node, Place, same_path, find, is_there, changed_at, change, is_elsewhere, remove, children, child_names, has_children, placed, greatest_int}
-use Rattle.tree_state.specs.Places.{path_at, Entry, node_of, place_of, HasText, HasNames, IsApart, IsRooted, IsSteady, Holds}
+use Rattle.tree_state.specs.Places.{Entry, node_of, place_of, HasText, HasNames, IsApart, IsSteady, Holds}
 use Rattle.tree_state.proofs.SamePaths.{same_path-true, same_path-above, same_path-sym}
 use Rattle.tree_state.proofs.Reorder.{Shuffles}
 use Rattle.tree_state.proofs.PathTexts.{legal_above}
-use Rattle.tree_state.proofs.Found.{found_there, there_node, there_changed, apart_changed, find_changed-same, find_changed-other, children_changed, there_removed-same, there_removed-other, find_removed-other, apart_removed, children_removed-other}
+use Rattle.tree_state.proofs.Found.{found_there, there_node, there_changed, apart_changed, find_changed-same, find_changed-other, children_changed, there_removed-same, find_removed-other, apart_removed, children_removed-other}
 use Rattle.tree_state.proofs.Entries.{at_text, remove_places, all_removed, texts_removed, texts_set}
 use Rattle.tree_state.proofs.NameSets.{has_name, remove_name}
 use Rattle.tree_state.proofs.ChildNames.{has_child_name, names_changed, names_removed-same, names_removed-other, count_removed, rooted_changed, rooted_removed}

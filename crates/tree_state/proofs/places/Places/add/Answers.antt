@@ -1,4 +1,4 @@
-use Rattle.std.proofs.Common.{◌≡◌, ℕ, ◌∷◌, sym, ap, subst, ◌∙◌}
+use Rattle.std.proofs.Common.{◌∷◌, sym, ap, ◌∙◌}
 use Rattle.std.specs.Map.{remove_entry}
 use Rattle.tree_state.proofs.Entries.{at_text}
 use Rattle.tree_state.proofs.Added.{holds_added, fresh_value}

@@ -1,4 +1,4 @@
-use Rattle.std.proofs.Common.{rules, ◌≡◌, ℕ, List, Option, Some, None, OnOk, OnErr, refl, sym, ap, subst, ◌∙◌, arith, w64}
+use Rattle.std.proofs.Common.{rules, w64}
 use Rattle.std.specs.Int.RustNames.{FitsSigned}
 use Rattle.std.proofs.lemmas.Int.{to_z-of_z}
 use Rattle.tree_state.proofs.CountedChildren.{on_err, not_counted, counted_in}

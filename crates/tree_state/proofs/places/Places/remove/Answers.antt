@@ -1,4 +1,3 @@
-use Rattle.std.proofs.Common.{◌≡◌, ℕ, ◌∷◌, sym, ap, ◌∙◌}
 use Rattle.tree_state.proofs.Removed.{holds_removed}
 use Rattle.tree_state.proofs.places.Places.remove.Goals as goal
 
