@@ -50,29 +50,31 @@ added_steady es n p z up at ephemeral content rooted steady absent found low sho
     let changed = change p (with_creation z) es in
     let after = add (n ∷ p) node changed in
     elim (cases_Bool (same_path (n ∷ p) q)) [
-      inl k ↦
-        let here : n ∷ p ≡ q = same_path-true (n ∷ p) q k in
-        let gone : is_there changed (n ∷ p) ≡ false = there_changed p (n ∷ p) (with_creation z) es ∙ absent in
-        let first : find after (n ∷ p) ≡ Some node = find_added-same (n ∷ p) node changed gone in
-        let again : find after (n ∷ p) ≡ Some x = subst (λ (r : Path). find after r ≡ Some x) (sym here) at_q in
-        let same : node ≡ x = cc in
-        let none : children (n ∷ p) after ≡ [] =
-            children_added-other n p (n ∷ p) node changed (same_path-above n p) ∙ children_changed p (n ∷ p) (with_creation z) es ∙ no_children (n ∷ p) es rooted absent in
-        subst (λ (r : Path). IsSteady after r x) here (subst (IsSteady after (n ∷ p)) same (fresh_steady after (n ∷ p) at ephemeral content short none))
-    | inr k ↦
-        let before : find changed q ≡ Some x = sym (find_added-other (n ∷ p) q node changed k) ∙ at_q in
-        elim (cases_Bool (same_path p q)) [
-          inl m ↦
-            let here : p ≡ q = same_path-true p q m in
-            let first : find changed p ≡ Some (with_creation z up) = find_changed-same p (with_creation z) up es found in
-            let again : find changed p ≡ Some x = subst (λ (r : Path). find changed r ≡ Some x) (sym here) before in
-            let same : with_creation z up ≡ x = cc in
-            let count : length (children p after) ≡ length (children p es) + 1 =
+      | inl k ↦
+          let here : n ∷ p ≡ q = same_path-true (n ∷ p) q k in
+          let gone : is_there changed (n ∷ p) ≡ false = there_changed p (n ∷ p) (with_creation z) es ∙ absent in
+          let first : find after (n ∷ p) ≡ Some node = find_added-same (n ∷ p) node changed gone in
+          let again : find after (n ∷ p) ≡ Some x = subst (λ (r : Path). find after r ≡ Some x) (sym here) at_q in
+          let same : node ≡ x = cc in
+          let none : children (n ∷ p) after ≡ [] =
+          children_added-other n p (n ∷ p) node changed (same_path-above n p) ∙ children_changed p (n ∷ p) (with_creation z) es ∙ no_children (n ∷ p) es rooted absent in
+          subst (λ (r : Path). IsSteady after r x) here (subst (IsSteady after (n ∷ p)) same (fresh_steady after (n ∷ p) at ephemeral content short none))
+      | inr k ↦
+          let before : find changed q ≡ Some x = sym (find_added-other (n ∷ p) q node changed k) ∙ at_q in
+          elim (cases_Bool (same_path p q)) [
+            | inl m ↦
+                let here : p ≡ q = same_path-true p q m in
+                let first : find changed p ≡ Some (with_creation z up) = find_changed-same p (with_creation z) up es found in
+                let again : find changed p ≡ Some x = subst (λ (r : Path). find changed r ≡ Some x) (sym here) before in
+                let same : with_creation z up ≡ x = cc in
+                let count : length (children p after) ≡ length (children p es) + 1 =
                 count_added n p node changed ∙ ap (λ (ns : List (List ℕ)). length ns + 1) (children_changed p p (with_creation z) es) in
-            subst (λ (r : Path). IsSteady after r x) here (subst (IsSteady after p) same (parent_steady es after p z up (steady p up found) low count))
-        | inr m ↦
-            other_steady es after q x (steady q x (sym (find_changed-other p q (with_creation z) es m) ∙ before))
-              (children_added-other n p q node changed (same_path-sym p q m) ∙ children_changed p q (with_creation z) es) ] ]
+                subst (λ (r : Path). IsSteady after r x) here (subst (IsSteady after p) same (parent_steady es after p z up (steady p up found) low count))
+            | inr m ↦
+                other_steady es after q x (steady q x (sym (find_changed-other p q (with_creation z) es m) ∙ before))
+                (children_added-other n p q node changed (same_path-sym p q m) ∙ children_changed p q (with_creation z) es)
+          ]
+    ]
 
 -- ---- the entries
 
@@ -82,7 +84,7 @@ inserted : (t : Places) (es : List Place) (q : Path) (key : String Global) (valu
 inserted t es q key value node h text same bare absent =
     let here = path_of-IsTextOf (string_bytes key) q text in
     let names : map string_bytes value.names.keys ≡ child_names (path_of (string_bytes key)) es =
-        ap (map string_bytes) bare ∙ sym (no_names q es h.rooted absent) ∙ ap (λ (r : Path). child_names r es) (sym here) in
+    ap (map string_bytes) bare ∙ sym (no_names q es h.rooted absent) ∙ ap (λ (r : Path). child_names r es) (sym here) in
     record {
       places = insert_places t es q node key value h text same absent;
       apart = apart_added q node es absent h.apart;
@@ -124,17 +126,17 @@ holds_added t u w es text upper n p up key name value z at ephemeral content h s
     let v = value_of xs (add (n ∷ p) node es) es upper p up nodes parent found_after in
     let x = with_child name z v.0 in
     let set : w.nodes.entries ≡ set_value (at_text upper) xs x =
-        subst (λ (l : List Entry). IsCountedIn upper name z l w.nodes.entries) put counts v.0 v.1 (low_value v.0 up v.2 low) in
+    subst (λ (l : List Entry). IsCountedIn upper name z l w.nodes.entries) put counts v.0 v.1 (low_value v.0 up v.2 low) in
     let gone : is_there changed (n ∷ p) ≡ false = there_changed p (n ∷ p) f es ∙ absent in
     let there : is_there changed p ≡ true = there_changed p p f es ∙ found_there p es up found in
     let places : Shuffles (map place_of (set_value (at_text upper) xs x)) (add (n ∷ p) node changed) =
-        subst (Shuffles (map place_of (set_value (at_text upper) xs x))) (change_added p (n ∷ p) f node es (same_path-above n p))
-          (written_places xs (add (n ∷ p) node es) es upper p f v.0 x nodes parent v.1 (counted_node name z v.0)) in
+    subst (Shuffles (map place_of (set_value (at_text upper) xs x))) (change_added p (n ∷ p) f node es (same_path-above n p))
+    (written_places xs (add (n ∷ p) node es) es upper p f v.0 x nodes parent v.1 (counted_node name z v.0)) in
     let names : All (HasNames (add (n ∷ p) node changed)) (set_value (at_text upper) xs x) =
-        written_names xs (add (n ∷ p) node es) es (add (n ∷ p) node changed) upper p v.0 x nodes parent v.1
-          (λ q far. names_added-other n p q node changed far ∙ names_changed p q f es)
-          (λ e. counted_names name z v.0 (child_names p es) e (ap (λ (m : List ℕ). has_name m (child_names p es)) at_name ∙ has_child_name n p es ∙ absent)
-            ∙ ap (λ (m : List ℕ). placed m (child_names p es)) at_name ∙ sym (names_added-same n p node changed ∙ ap (placed n) (names_changed p p f es))) in
+    written_names xs (add (n ∷ p) node es) es (add (n ∷ p) node changed) upper p v.0 x nodes parent v.1
+    (λ q far. names_added-other n p q node changed far ∙ names_changed p q f es)
+    (λ e. counted_names name z v.0 (child_names p es) e (ap (λ (m : List ℕ). has_name m (child_names p es)) at_name ∙ has_child_name n p es ∙ absent)
+    ∙ ap (λ (m : List ℕ). placed m (child_names p es)) at_name ∙ sym (names_added-same n p node changed ∙ ap (placed n) (names_changed p p f es))) in
     record {
       places = subst (λ (l : List Entry). Shuffles (map place_of l) (add (n ∷ p) node changed)) (sym set) places;
       apart = apart_added (n ∷ p) node changed gone (apart_changed p f es h.apart);

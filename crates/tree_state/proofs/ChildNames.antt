@@ -32,8 +32,9 @@ has_name-Shuffles n xs ys (joined us vs ws h k) = has_name-Shuffles n us vs h �
 same_path-flips : (p q : Path) → same_path p q ≡ same_path q p
 same_path-flips p q =
     elim (cases_Bool (same_path p q)) [
-      inl k ↦ let e = same_path-from q p (sym (same_path-true p q k)) in cc
-    | inr k ↦ let e = same_path-sym p q k in cc ]
+      | inl k ↦ let e = same_path-from q p (sym (same_path-true p q k)) in cc
+      | inr k ↦ let e = same_path-sym p q k in cc
+    ]
 
 -- a name that the list has not is none of its names
 none_same : (n : List ℕ) (ms : List (List ℕ)) → has_name n ms ≡ false → AllByRecursion (λ m. bytes_eq n m ≡ false) ms
@@ -62,6 +63,7 @@ has_child n p (e ∷ es) = under e.path (has_child n p es)
     by_tests true false c t m e f h = absurd cc
     by_tests false true c t m e f h = absurd cc
     by_tests false false c t m e f h = h
+
     under : (q : Path) → has_name n (children p es) ≡ is_there es (n ∷ p)
         → has_name n (cons_option (name_under p q) (children p es)) ≡ cond (same_path q (n ∷ p)) true (is_there es (n ∷ p))
     under [] h = h
@@ -81,6 +83,7 @@ distinct_children p (e ∷ es) apart = under e.path apart.0 (distinct_children p
         → IsDistinct bytes_eq (cons_option (cond b (Some m) None) (children p es))
     by_test true m absent h = (none_same m (children p es) (absent refl), h)
     by_test false m absent h = h
+
     under : (q : Path) → is_there es q ≡ false → IsDistinct bytes_eq (children p es) → IsDistinct bytes_eq (cons_option (name_under p q) (children p es))
     under [] absent h = h
     under (m ∷ q) absent h = by_test (same_path p q) m (λ k. has_child m p es ∙ ap (λ (r : Path). is_there es (m ∷ r)) (same_path-true p q k) ∙ absent) h
@@ -141,22 +144,25 @@ rooted_changed p f es rooted = λ n q h. there_changed p q f es ∙ rooted n q (
 there_more : (p q : Path) (node : Node) (es : List Place) → is_there es q ≡ true → is_there (add p node es) q ≡ true
 there_more p q node es h =
     elim (cases_Bool (same_path p q)) [
-      inl k ↦ subst (λ (r : Path). is_there (add p node es) r ≡ true) (same_path-true p q k) (there_added-same p node es)
-    | inr k ↦ there_added-other p q node es k ∙ h ]
+      | inl k ↦ subst (λ (r : Path). is_there (add p node es) r ≡ true) (same_path-true p q k) (there_added-same p node es)
+      | inr k ↦ there_added-other p q node es k ∙ h
+    ]
 
 pub rooted_added : (n : List ℕ) (p : Path) (node : Node) (es : List Place) → is_there es p ≡ true → IsRooted es → IsRooted (add (n ∷ p) node es)
 rooted_added n p node es up rooted = λ m q h.
     elim (cases_Bool (same_path (n ∷ p) (m ∷ q))) [
-      inl k ↦
-        let e : p ≡ q = let s = same_path-true (n ∷ p) (m ∷ q) k in cc in
-        there_more (n ∷ p) q node es (subst (λ (r : Path). is_there es r ≡ true) e up)
-    | inr k ↦ there_more (n ∷ p) q node es (rooted m q (sym (there_added-other (n ∷ p) (m ∷ q) node es k) ∙ h)) ]
+      | inl k ↦
+          let e : p ≡ q = let s = same_path-true (n ∷ p) (m ∷ q) k in cc in
+          there_more (n ∷ p) q node es (subst (λ (r : Path). is_there es r ≡ true) e up)
+      | inr k ↦ there_more (n ∷ p) q node es (rooted m q (sym (there_added-other (n ∷ p) (m ∷ q) node es k) ∙ h))
+    ]
 
 there_before : (p q : Path) (es : List Place) → is_there (remove p es) q ≡ true → (same_path p q ≡ false) × (is_there es q ≡ true)
 there_before p q es h =
     elim (cases_Bool (same_path p q)) [
-      inl k ↦ let e = subst (λ (r : Path). is_there (remove p es) r ≡ false) (same_path-true p q k) (there_removed-same p es) in absurd cc
-    | inr k ↦ (k, sym (there_removed-other p q es k) ∙ h) ]
+      | inl k ↦ let e = subst (λ (r : Path). is_there (remove p es) r ≡ false) (same_path-true p q k) (there_removed-same p es) in absurd cc
+      | inr k ↦ (k, sym (there_removed-other p q es k) ∙ h)
+    ]
 
 none_under : (m : List ℕ) (p : Path) (es : List Place) → has_children p es ≡ false → is_there es (m ∷ p) ≡ false
 unfolding has_children
@@ -171,7 +177,8 @@ pub rooted_removed : (p : Path) (es : List Place) → has_children p es ≡ fals
 rooted_removed p es none rooted = λ m q h.
     let before = there_before p (m ∷ q) es h in
     elim (cases_Bool (same_path p q)) [
-      inl k ↦
-        let e = subst (λ (r : Path). is_there es (m ∷ r) ≡ true) (sym (same_path-true p q k)) before.1 in
-        let f = none_under m p es none in absurd cc
-    | inr k ↦ there_removed-other p q es k ∙ rooted m q before.1 ]
+      | inl k ↦
+          let e = subst (λ (r : Path). is_there es (m ∷ r) ≡ true) (sym (same_path-true p q k)) before.1 in
+          let f = none_under m p es none in absurd cc
+      | inr k ↦ there_removed-other p q es k ∙ rooted m q before.1
+    ]

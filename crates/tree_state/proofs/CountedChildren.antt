@@ -36,8 +36,8 @@ counted_in text name z es fs v w c names l e k h same_value = λ n f small.
     let count : c ≡ v.numbers.creations + 1 = omega arith in
     let set = same_set names (record { keys = insert_key string_cmp v.names.keys name }) k in
     h ∙ ap (set_value (is_at_text text) es) same_value ∙ ap (λ (x : ℕ). set_value (is_at_text text) es (record { content = v.content; numbers = record v.numbers { creations = x; pzxid = z }; names = names })) count
-      ∙ ap (λ (x : BTreeSet (String Global)). set_value (is_at_text text) es (record { content = v.content; numbers = record v.numbers { creations = v.numbers.creations + 1; pzxid = z }; names = x })) set
-      ∙ ap (λ (x : code.Node). set_value (is_at_text text) es (with_child name z x)) same
+    ∙ ap (λ (x : BTreeSet (String Global)). set_value (is_at_text text) es (record { content = v.content; numbers = record v.numbers { creations = v.numbers.creations + 1; pzxid = z }; names = x })) set
+    ∙ ap (λ (x : code.Node). set_value (is_at_text text) es (with_child name z x)) same
 
 pub counted_out : (text name : List ℕ) (z : ℤ) (es fs : List Entry) (v w : code.Node) (c : ℕ) (names : BTreeSet (String Global)) → Some v ≡ lookup (is_at_text text) es
     → c ≡ min (v.numbers.deletions + 1) 4294967295 → names.keys ≡ remove_key (is_at_text name) v.names.keys
@@ -50,5 +50,5 @@ counted_out text name z es fs v w c names l e k h same_value = λ n f small.
     let count : c ≡ v.numbers.deletions + 1 = omega arith in
     let set = same_set names (record { keys = remove_key (is_at_text name) v.names.keys }) k in
     h ∙ ap (set_value (is_at_text text) es) same_value ∙ ap (λ (x : ℕ). set_value (is_at_text text) es (record { content = v.content; numbers = record v.numbers { deletions = x; pzxid = z }; names = names })) count
-      ∙ ap (λ (x : BTreeSet (String Global)). set_value (is_at_text text) es (record { content = v.content; numbers = record v.numbers { deletions = v.numbers.deletions + 1; pzxid = z }; names = x })) set
-      ∙ ap (λ (x : code.Node). set_value (is_at_text text) es (without_child name z x)) same
+    ∙ ap (λ (x : BTreeSet (String Global)). set_value (is_at_text text) es (record { content = v.content; numbers = record v.numbers { deletions = v.numbers.deletions + 1; pzxid = z }; names = x })) set
+    ∙ ap (λ (x : code.Node). set_value (is_at_text text) es (without_child name z x)) same

@@ -49,8 +49,9 @@ is_name-refl n = is_eq-slice_cmp n n ∙ (bytes_eq-Decides n n).1 refl
 is_name-other : (n m : List ℕ) → bytes_eq m n ≡ false → is_name n m ≡ false
 is_name-other n m h =
     elim (cases_Bool (is_name n m)) [
-      inl k ↦ let e : n ≡ m = (bytes_eq-Decides n m).0 (sym (is_eq-slice_cmp n m) ∙ k) in let f = (bytes_eq-Decides m n).1 (sym e) in absurd cc
-    | inr k ↦ k ]
+      | inl k ↦ let e : n ≡ m = (bytes_eq-Decides n m).0 (sym (is_eq-slice_cmp n m) ∙ k) in let f = (bytes_eq-Decides m n).1 (sym e) in absurd cc
+      | inr k ↦ k
+    ]
 
 -- a new name goes to its place
 pub insert_name : (ks : List (String Global)) (k : String Global) → has_name (string_bytes k) (map string_bytes ks) ≡ false
@@ -89,9 +90,10 @@ placed_removed n [] h = ap (remove_key (is_name n)) (placed_alone n) ∙ remove_
 placed_removed n (m ∷ ms) h =
     let apart = first_not _ _ h in
     elim (cases_Bool (text_le n m)) [
-      inl a ↦ ap (remove_key (is_name n)) (placed_before n m ms a) ∙ remove_here n (m ∷ ms)
-    | inr a ↦ ap (remove_key (is_name n)) (placed_after n m ms a) ∙ remove_later n m (placed n ms) apart.0
-        ∙ ap (λ (l : List (List ℕ)). m ∷ l) (placed_removed n ms apart.1) ]
+      | inl a ↦ ap (remove_key (is_name n)) (placed_before n m ms a) ∙ remove_here n (m ∷ ms)
+      | inr a ↦ ap (remove_key (is_name n)) (placed_after n m ms a) ∙ remove_later n m (placed n ms) apart.0
+          ∙ ap (λ (l : List (List ℕ)). m ∷ l) (placed_removed n ms apart.1)
+    ]
 
 -- a set without a name that stands there once
 pub remove_name : (n : List ℕ) (ks : List (String Global)) (ms : List (List ℕ)) → map string_bytes ks ≡ placed n ms → has_name n ms ≡ false

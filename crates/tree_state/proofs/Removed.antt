@@ -37,7 +37,7 @@ change_removed p q f (e ∷ es) = go (is_elsewhere q e) (is_elsewhere q (changed
   where
     go : (b c : Bool) → c ≡ b → map (changed_at p f) (filter (is_elsewhere q) es) ≡ filter (is_elsewhere q) (map (changed_at p f) es)
         → map (changed_at p f) (cond b (e ∷ filter (is_elsewhere q) es) (filter (is_elsewhere q) es))
-          ≡ cond c (changed_at p f e ∷ filter (is_elsewhere q) (map (changed_at p f) es)) (filter (is_elsewhere q) (map (changed_at p f) es))
+        ≡ cond c (changed_at p f e ∷ filter (is_elsewhere q) (map (changed_at p f) es)) (filter (is_elsewhere q) (map (changed_at p f) es))
     go true true i ih = ap (λ (l : List Place). changed_at p f e ∷ l) ih
     go true false i ih = absurd cc
     go false true i ih = absurd cc
@@ -63,23 +63,25 @@ removed_steady es n p z up apart steady there found q x at_q =
     let changed = change p (with_deletion z) es in
     let after = remove (n ∷ p) changed in
     elim (cases_Bool (same_path (n ∷ p) q)) [
-      inl k ↦
-        let gone : is_there after q ≡ false = subst (λ (r : Path). is_there after r ≡ false) (same_path-true (n ∷ p) q k) (there_removed-same (n ∷ p) changed) in
-        let left = found_there q after x at_q in
-        absurd cc
-    | inr k ↦
-        let before : find changed q ≡ Some x = sym (find_removed-other (n ∷ p) q changed k) ∙ at_q in
-        elim (cases_Bool (same_path p q)) [
-          inl m ↦
-            let here : p ≡ q = same_path-true p q m in
-            let first : find changed p ≡ Some (with_deletion z up) = find_changed-same p (with_deletion z) up es found in
-            let again : find changed p ≡ Some x = subst (λ (r : Path). find changed r ≡ Some x) (sym here) before in
-            let same : with_deletion z up ≡ x = cc in
-            subst (λ (r : Path). IsSteady after r x) here
-              (subst (IsSteady after p) same (parent_steady es after p z up (steady p up found) (one_child_less es n p (with_deletion z) apart there)))
-        | inr m ↦
-            other_steady es after q x (steady q x (sym (find_changed-other p q (with_deletion z) es m) ∙ before))
-              (children_removed-other n p q changed (same_path-sym p q m) ∙ children_changed p q (with_deletion z) es) ] ]
+      | inl k ↦
+          let gone : is_there after q ≡ false = subst (λ (r : Path). is_there after r ≡ false) (same_path-true (n ∷ p) q k) (there_removed-same (n ∷ p) changed) in
+          let left = found_there q after x at_q in
+          absurd cc
+      | inr k ↦
+          let before : find changed q ≡ Some x = sym (find_removed-other (n ∷ p) q changed k) ∙ at_q in
+          elim (cases_Bool (same_path p q)) [
+            | inl m ↦
+                let here : p ≡ q = same_path-true p q m in
+                let first : find changed p ≡ Some (with_deletion z up) = find_changed-same p (with_deletion z) up es found in
+                let again : find changed p ≡ Some x = subst (λ (r : Path). find changed r ≡ Some x) (sym here) before in
+                let same : with_deletion z up ≡ x = cc in
+                subst (λ (r : Path). IsSteady after r x) here
+                (subst (IsSteady after p) same (parent_steady es after p z up (steady p up found) (one_child_less es n p (with_deletion z) apart there)))
+            | inr m ↦
+                other_steady es after q x (steady q x (sym (find_changed-other p q (with_deletion z) es m) ∙ before))
+                (children_removed-other n p q changed (same_path-sym p q m) ∙ children_changed p q (with_deletion z) es)
+          ]
+    ]
 
 -- ---- the entries
 
@@ -130,18 +132,18 @@ holds_removed t u w es text upper name n p z h spelled above at_name there alone
     let v = value_of xs (remove (n ∷ p) es) es upper p up.0 nodes parent found_after in
     let x = without_child n z v.0 in
     let set : w.nodes.entries ≡ set_value (at_text upper) xs x =
-        subst (λ (l : List ℕ). IsCountedOut upper l z xs w.nodes.entries) at_name (subst (λ (l : List Entry). IsCountedOut upper name z l w.nodes.entries) gone counts)
-          v.0 v.1 (low_value es n p up.0 v.0 h.apart there (h.steady p up.0 up.1) v.2) in
+    subst (λ (l : List ℕ). IsCountedOut upper l z xs w.nodes.entries) at_name (subst (λ (l : List Entry). IsCountedOut upper name z l w.nodes.entries) gone counts)
+    v.0 v.1 (low_value es n p up.0 v.0 h.apart there (h.steady p up.0 up.1) v.2) in
     let still : is_there changed (n ∷ p) ≡ true = there_changed p (n ∷ p) f es ∙ there in
     let places : Shuffles (map place_of (set_value (at_text upper) xs x)) after =
-        subst (Shuffles (map place_of (set_value (at_text upper) xs x))) (change_removed p (n ∷ p) f es)
-          (written_places xs (remove (n ∷ p) es) es upper p f v.0 x nodes parent v.1 (counted_node n z v.0)) in
+    subst (Shuffles (map place_of (set_value (at_text upper) xs x))) (change_removed p (n ∷ p) f es)
+    (written_places xs (remove (n ∷ p) es) es upper p f v.0 x nodes parent v.1 (counted_node n z v.0)) in
     let names : All (HasNames after) (set_value (at_text upper) xs x) =
-        written_names xs (remove (n ∷ p) es) es after upper p v.0 x nodes parent v.1
-          (λ q far. names_removed-other n p q changed far ∙ names_changed p q f es)
-          (λ e. counted_names n z v.0 (child_names p after)
-            (e ∙ sym (names_changed p p f es) ∙ names_removed-same n p changed (apart_changed p f es h.apart) still)
-            (has_child_name n p after ∙ there_removed-same (n ∷ p) changed)) in
+    written_names xs (remove (n ∷ p) es) es after upper p v.0 x nodes parent v.1
+    (λ q far. names_removed-other n p q changed far ∙ names_changed p q f es)
+    (λ e. counted_names n z v.0 (child_names p after)
+    (e ∙ sym (names_changed p p f es) ∙ names_removed-same n p changed (apart_changed p f es h.apart) still)
+    (has_child_name n p after ∙ there_removed-same (n ∷ p) changed)) in
     let none : has_children (n ∷ p) changed ≡ false = ap (λ (ns : List (List ℕ)). not (length ns == 0)) (children_changed p (n ∷ p) f es) ∙ alone in
     record {
       places = subst (λ (l : List Entry). Shuffles (map place_of l) after) (sym set) places;

@@ -52,6 +52,7 @@ insert_undone (x ∷ es) text key v e absent =
         absurd cc
     by_order Greater i far ih =
         ap (λ (b : Bool). cond b (insert_entry string_cmp es key v) (x ∷ remove_entry (at_text text) (insert_entry string_cmp es key v))) far ∙ ap (λ (l : List Entry). x ∷ l) ih
+
     by_first : (b : Bool) → at_text text x.0 ≡ b → is_some (cond b (Some x.1) (lookup (at_text text) es)) ≡ false
         → (is_some (lookup (at_text text) es) ≡ false → remove_entry (at_text text) (insert_entry string_cmp es key v) ≡ es)
         → remove_entry (at_text text) (insert_entry string_cmp (x ∷ es) key v) ≡ x ∷ es

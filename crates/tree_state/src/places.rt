@@ -40,7 +40,14 @@ impl Places {
     }
 
     /// Puts a node where none is, under a parent that is there. A node that is there stays. Without memory all is as it was.
-    pub(crate) fn add(&mut self, alloc: Global, path: &str, content: Option<Bytes>, at: &Moment, ephemeral: bool) -> Result<(), Memory>
+    pub(crate) fn add(
+        &mut self,
+        alloc: Global,
+        path: &str,
+        content: Option<Bytes>,
+        at: &Moment,
+        ephemeral: bool,
+    ) -> Result<(), Memory>
         ensures ok { OnOk result ((es : List Place) (n : List ℕ) (p : Path) (up : PlainNode) → Holds self.old es → IsTextOf path.now (n ∷ p)
             → is_there es (n ∷ p) ≡ false → find es p ≡ Some up → up.numbers.creations < greatest_int → size_of content ≤ content_limit
             → Holds self.new (add (n ∷ p) (record { content = content; numbers = fresh_numbers at.now ephemeral }) (change p (with_creation at.now.zxid) es))) }

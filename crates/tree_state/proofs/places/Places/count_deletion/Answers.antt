@@ -13,4 +13,4 @@ returns-in-Some c =
     let f5 : FitsSigned w64 c.in-Some.up.now.numbers.owner = search rules in
     let f6 : FitsSigned w64 c.args.at.now.zxid = search rules in
     counted_out c.args.parent.now c.args.name.now c.args.at.now.zxid c.args.self.now.nodes.entries _ c.in-Some.up.now _ c.saturating_add.result c.remove.new.self c.in-Some.ensures.value
-      c.saturating_add.ensures c.remove.ensures.keys (c.get_mut.follows.holds _).0 (simp to_z-of_z)
+    c.saturating_add.ensures c.remove.ensures.keys (c.get_mut.follows.holds _).0 (simp to_z-of_z)
