@@ -13,3 +13,5 @@ pub mod Added
 pub mod Undone
 pub mod Removed
 pub mod Kept
+pub mod Root
+pub mod Copied
