@@ -5,6 +5,13 @@ pub mod PathTexts
 pub mod Found
 pub mod Entries
 pub mod Lookups
+pub mod NameSets
+pub mod ChildNames
+pub mod CountedChildren
+pub mod ParentWritten
+pub mod Added
+pub mod Undone
+pub mod Removed
 pub mod Kept
 pub mod Root
 pub mod Copied

@@ -6,3 +6,4 @@ pub mod Step
 pub mod Shuffles
 pub mod Places
 pub mod Sessions
+pub mod Counts
