@@ -156,12 +156,6 @@ unfolding add children name_of_child name_under
 children_added-other m p q n [] h = ap (λ (b : Bool). cons_option (cond b (Some m) None) []) h
 children_added-other m p q n (e ∷ es) h = ap (cons_option (name_under q e.path)) (children_added-other m p q n es h)
 
--- the root is no child
-pub children_added-root : (q : Path) (n : Node) (es : List Place) → children q (add [] n es) ≡ children q es
-unfolding add children name_of_child name_under
-children_added-root q n [] = refl
-children_added-root q n (e ∷ es) = ap (cons_option (name_under q e.path)) (children_added-root q n es)
-
 pub change_added : (p q : Path) (f : Node → Node) (b : Node) (es : List Place) → same_path q p ≡ false → change p f (add q b es) ≡ add q b (change p f es)
 unfolding change add changed_at
 change_added p q f b [] h = ap (λ (x : Bool). cond x (record { path = q; node = f b }) (record { path = q; node = b }) ∷ []) h

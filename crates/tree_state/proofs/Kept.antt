@@ -1,5 +1,5 @@
 -- What a change of one node's content and numbers keeps.
-use Rattle.std.proofs.Common.{◌≡◌, ◌≤◌, ◌<◌, ◌+◌, ℕ, Bool, true, false, List, [], ◌∷◌, Option, Some, None, String, Global, string_bytes, length, map, option_map, inl, inr, refl, sym, ap, subst, ◌∙◌, arith}
+use Rattle.std.proofs.Common.{◌≡◌, ◌≤◌, ◌<◌, ◌+◌, ℕ, List, Option, Some, None, String, Global, string_bytes, length, map, option_map, inl, inr, sym, ap, subst, ◌∙◌, arith}
 use Rattle.std.specs.Prelude.{All}
 use Rattle.std.specs.Map.{lookup, set_value}
 use Rattle.std.proofs.lemmas.Bool.{cases_Bool}
@@ -7,24 +7,18 @@ use Rattle.tree_state.specs.declared.node.Node as code
 use Rattle.tree_state.specs.declared.node.Moment.{Moment}
 use Rattle.tree_state.specs.declared.places.Places.{Places}
 use Rattle.tree_state.specs.Commands.{IsTextOf}
-use Rattle.tree_state.specs.Nodes.{Path, Node, Place, same_path, find, is_there, change, children, child_names, in_order, greatest_int, size_of}
+use Rattle.tree_state.specs.Nodes.{Path, Node, Place, same_path, find, change, greatest_int, size_of}
 use Rattle.tree_state.specs.Changes.{with_content, with_acl}
 use Rattle.tree_state.specs.Shuffles.{Shuffles}
-use Rattle.tree_state.specs.Places.{path_of, Entry, path_at, node_of, place_of, HasText, HasNames, IsRooted, IsSteady, Holds, content_limit}
+use Rattle.tree_state.specs.Places.{path_of, Entry, path_at, node_of, place_of, HasText, HasNames, IsSteady, Holds, content_limit}
 use Rattle.tree_state.proofs.SamePaths.{same_path-true}
-use Rattle.tree_state.proofs.Found.{there_changed, apart_changed, find_changed-same, find_changed-other, children_changed}
+use Rattle.tree_state.proofs.Found.{apart_changed, find_changed-same, find_changed-other, children_changed}
+use Rattle.tree_state.proofs.ChildNames.{names_changed, rooted_changed}
 use Rattle.tree_state.proofs.Entries.{at_text, apart_entries, find_holds, set_places, all_set, texts_set}
 
-pub child_names_changed : (p q : Path) (f : Node → Node) (es : List Place) → child_names q (change p f es) ≡ child_names q es
-unfolding child_names
-child_names_changed p q f es = ap in_order (children_changed p q f es)
-
-names_changed : (es : List Place) (p : Path) (f : Node → Node) (k : String Global) (v w : code.Node) → w.names.keys ≡ v.names.keys → HasNames es (k, v) → HasNames (change p f es) (k, w)
-names_changed es p f k v w same h =
-    ap (map string_bytes) same ∙ h ∙ sym (child_names_changed p (path_of (string_bytes k)) f es)
-
-pub rooted_changed : (p : Path) (f : Node → Node) (es : List Place) → IsRooted es → IsRooted (change p f es)
-rooted_changed p f es h = λ n q there. there_changed p q f es ∙ h n q (sym (there_changed p (n ∷ q) f es) ∙ there)
+same_names : (es : List Place) (p : Path) (f : Node → Node) (k : String Global) (v w : code.Node) → w.names.keys ≡ v.names.keys → HasNames es (k, v) → HasNames (change p f es) (k, w)
+same_names es p f k v w same h =
+    ap (map string_bytes) same ∙ h ∙ sym (names_changed p (path_of (string_bytes k)) f es)
 
 -- a node is as steady as before, since no node gets or loses a child
 pub steady_changed : (p q : Path) (f : Node → Node) (n : Node) (es : List Place) → IsSteady es q n → IsSteady (change p f es) q n
@@ -59,8 +53,8 @@ change_holds t u es text p f v w h k l e same steady eu =
       texts = subst (All HasText) (sym eu) (texts_set (at_text text) t.nodes.entries w h.texts);
       names = subst (All (HasNames (change p f es))) (sym eu)
           (all_set (HasNames es) (HasNames (change p f es)) text p t.nodes.entries v w k h.texts (apart_entries t es h) l
-          (λ x legal far n. n ∙ sym (child_names_changed p (path_at x) f es))
-          (λ key here n. names_changed es p f key v w same n) h.names);
+          (λ x legal far n. n ∙ sym (names_changed p (path_at x) f es))
+          (λ key here n. same_names es p f key v w same n) h.names);
       rooted = rooted_changed p f es h.rooted;
       steady = all_steady p f (node_of v) es (find_holds t es text p h k ∙ ap (option_map node_of) l) steady h.steady;
     }

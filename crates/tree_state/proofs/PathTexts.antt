@@ -1,7 +1,7 @@
 -- A path is read back from its text.
 use Rattle.std.proofs.Common.{◌≡◌, ℕ, Bool, false, cond, List, [], ◌∷◌, codes, bytes_eq, inl, inr, refl, sym, ap, subst, ◌∙◌}
 use Rattle.std.proofs.lemmas.Bool.{cases_Bool}
-use Rattle.std.proofs.lemmas.List.Elements.{All-nil, All-head, All-tail}
+use Rattle.std.proofs.lemmas.List.Elements.{All-nil, All-tail}
 use Rattle.std.proofs.lemmas.Slice.Eq.{bytes_eq-Decides}
 use Rattle.zk_path.specs.Paths.{IsComponent, IsPath, joined, text_of}
 use Rattle.zk_path.specs.View.{components}
@@ -37,6 +37,3 @@ IsTextOf-path_of text p h = subst (λ (q : Path). IsTextOf text q) (sym (path_of
 
 pub legal_above : (n : List ℕ) (p : Path) → IsPath (n ∷ p) → IsPath p
 legal_above n p h = All-tail IsComponent n p h
-
-pub legal_name : (n : List ℕ) (p : Path) → IsPath (n ∷ p) → IsComponent n
-legal_name n p h = All-head IsComponent n p h

@@ -59,10 +59,7 @@ impl Node {
         requires { IsSmall self.now }
         ensures { result ≡ kept_stat self.now }
     {
-        let changes = self
-            .numbers
-            .creations
-            .saturating_add(self.numbers.deletions);
+        let changes = self.numbers.creations + self.numbers.deletions;
         Stat {
             czxid: self.numbers.czxid,
             mzxid: self.numbers.mzxid,

@@ -1,5 +1,4 @@
-use Rattle.std.proofs.Common.{◌≡◌, sym, ap, ◌∙◌, ⊎_elim}
-use Rattle.std.specs.Option.{option_copied_mut}
+use Rattle.std.proofs.Common.{sym}
 use Rattle.tree_state.proofs.Kept.{acl_counted, not_missing}
 use Rattle.tree_state.proofs.places.Places.set_acl.Goals as goal
 

@@ -1,5 +1,4 @@
-use Rattle.std.proofs.Common.{◌≡◌, sym, ap, ◌∙◌, ⊎_elim}
-use Rattle.std.specs.Option.{option_copied_mut}
+use Rattle.std.proofs.Common.{sym}
 use Rattle.tree_state.proofs.Kept.{content_changed, not_missing}
 use Rattle.tree_state.proofs.places.Places.set_content.Goals as goal
 
