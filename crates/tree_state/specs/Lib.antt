@@ -6,4 +6,5 @@ pub mod Step
 pub mod Shuffles
 pub mod Places
 pub mod Sessions
+pub mod Counts
 pub mod Trees

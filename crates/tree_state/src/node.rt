@@ -1,10 +1,10 @@
 //! What is kept of a node.
 
-ghost use Rattle.std.specs.Prelude.{◌≡◌, pos, min, map, IfOk};
+ghost use Rattle.std.specs.Prelude.{◌≡◌, ◌<◌, pos, min, map, IfOk};
 ghost use Rattle.std.specs.String.{string_bytes};
 ghost use Rattle.tree_state.specs.Nodes.{greatest_int};
-ghost use Rattle.tree_state.specs.Changes.{fresh_numbers};
-ghost use Rattle.tree_state.specs.Places.{IsSmall, IsRoot, kept_stat};
+ghost use Rattle.tree_state.specs.Changes.{fresh_numbers, with_content, with_acl};
+ghost use Rattle.tree_state.specs.Places.{node_of, IsSmall, IsRoot, kept_stat};
 
 use jute_core::{Bytes, Memory, Text, Texts};
 use std::alloc::Global;
@@ -54,6 +54,7 @@ pub struct Node {
 
 impl Node {
     /// The Stat of the node. Takes no memory.
+    #[tactic(auto, unfolding(crate::specs::Places::kept_stat, crate::specs::Nodes::size_of))]
     pub(crate) fn stat(&self) -> Stat
         ensures { IsSmall self.now → result ≡ kept_stat self.now }
     {
@@ -75,6 +76,27 @@ impl Node {
             children: int(self.names.len()),
             pzxid: self.numbers.pzxid,
         }
+    }
+
+    /// Takes this content at this moment, and counts that.
+    #[tactic(auto, unfolding(crate::specs::Places::node_of, crate::specs::Changes::with_content))]
+    pub(crate) fn set_content(&mut self, content: Option<Bytes>, at: &Moment)
+        ensures plain { self.old.numbers.version < greatest_int → node_of self.new ≡ with_content at.now content (node_of self.old) }
+        ensures names { self.new.names.keys ≡ self.old.names.keys }
+    {
+        self.content = content;
+        self.numbers.mzxid = at.zxid;
+        self.numbers.mtime = at.time;
+        self.numbers.version = self.numbers.version.saturating_add(1);
+    }
+
+    /// Counts a change of the ACL.
+    #[tactic(auto, unfolding(crate::specs::Places::node_of, crate::specs::Changes::with_acl))]
+    pub(crate) fn count_acl(&mut self)
+        ensures plain { self.old.numbers.aversion < greatest_int → node_of self.new ≡ with_acl (node_of self.old) }
+        ensures names { self.new.names.keys ≡ self.old.names.keys }
+    {
+        self.numbers.aversion = self.numbers.aversion.saturating_add(1);
     }
 
     /// A copy of the content.
@@ -107,6 +129,7 @@ fn int(count: usize) -> i32
 }
 
 // The root, which has had so many creations.
+#[tactic(auto, unfolding(crate::specs::Places::node_of, crate::specs::State::first_numbers, crate::specs::Changes::fresh_numbers))]
 pub(crate) fn root(alloc: Global, creations: u32) -> Node
     ensures { IsRoot result creations }
 {
@@ -125,6 +148,7 @@ pub(crate) fn root(alloc: Global, creations: u32) -> Node
 }
 
 // The numbers of a node that is made at this moment.
+#[tactic(auto, unfolding(crate::specs::Changes::fresh_numbers))]
 pub(crate) fn fresh(at: &Moment, ephemeral: bool) -> Numbers
     ensures { result ≡ fresh_numbers at.now ephemeral }
 {

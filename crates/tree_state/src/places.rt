@@ -7,8 +7,9 @@ ghost use Rattle.tree_state.specs.Nodes.{Path, Node as PlainNode, Place, find, i
 ghost use Rattle.tree_state.specs.State.{start_at};
 ghost use Rattle.tree_state.specs.Changes.{fresh_numbers, with_creation, with_deletion, with_content, with_acl};
 ghost use Rattle.tree_state.specs.Places.{Holds, IsFound, content_limit};
+ghost use Rattle.tree_state.specs.Counts.{IsCountedIn, IsCountedOut};
 
-use crate::node::{Moment, Node, fresh, root};
+use crate::node::{Moment, Node, Numbers, fresh, root};
 use crate::texts::parts;
 use jute_core::{Bytes, Memory};
 use std::alloc::Global;
@@ -38,13 +39,23 @@ impl Places {
         self.nodes.get(path)
     }
 
-    /// Puts a node where none is, under a parent that is there. Without memory all is as it was.
-    pub(crate) fn add(&mut self, alloc: Global, path: &str, content: Option<Bytes>, at: &Moment, ephemeral: bool) -> Result<(), Memory>
+    /// Puts a node where none is, under a parent that is there. A node that is there stays. Without memory all is as it was.
+    pub(crate) fn add(
+        &mut self,
+        alloc: Global,
+        path: &str,
+        content: Option<Bytes>,
+        at: &Moment,
+        ephemeral: bool,
+    ) -> Result<(), Memory>
         ensures ok { OnOk result ((es : List Place) (n : List ℕ) (p : Path) (up : PlainNode) → Holds self.old es → IsTextOf path.now (n ∷ p)
             → is_there es (n ∷ p) ≡ false → find es p ≡ Some up → up.numbers.creations < greatest_int → size_of content ≤ content_limit
             → Holds self.new (add (n ∷ p) (record { content = content; numbers = fresh_numbers at.now ephemeral }) (change p (with_creation at.now.zxid) es))) }
         ensures err { OnErr result ((es : List Place) → Holds self.old es → Holds self.new es) }
     {
+        if self.nodes.contains_key(path) {
+            return Ok(());
+        }
         let (parent, name) = parts(path);
         let key = path.to_string(alloc)?;
         let name = name.to_string(alloc)?;
@@ -54,21 +65,30 @@ impl Places {
             names: BTreeSet::new(alloc),
         };
         self.nodes.insert(key, node)?;
-        let counted = self.count_creation(parent, name, at);
-        if counted.is_err() {
+        if let Err(memory) = self.count_creation(parent, name, at) {
             self.nodes.remove(path);
-        }
-        counted
-    }
-
-    // One more child of the parent.
-    fn count_creation(&mut self, parent: &str, name: String, at: &Moment) -> Result<(), Memory> {
-        if let Some(up) = self.nodes.get_mut(parent) {
-            up.names.insert(name)?;
-            up.numbers.creations = up.numbers.creations.saturating_add(1);
-            up.numbers.pzxid = at.zxid;
+            return Err(memory);
         }
         Ok(())
+    }
+
+    // One more child of the parent. Without memory all is as it was.
+    fn count_creation(&mut self, parent: &str, name: String, at: &Moment) -> Result<(), Memory>
+        ensures ok { OnOk result (IsCountedIn parent.now name at.now.zxid self.old.nodes.entries self.new.nodes.entries) }
+        ensures err { OnErr result (self.new.nodes.entries ≡ self.old.nodes.entries) }
+    {
+        match self.nodes.get_mut(parent) {
+            Some(up) => {
+                up.names.insert(name)?;
+                up.numbers = Numbers {
+                    creations: up.numbers.creations.saturating_add(1),
+                    pzxid: at.zxid,
+                    ..up.numbers
+                };
+                Ok(())
+            }
+            None => Ok(()),
+        }
     }
 
     /// Takes out the node at the path with this text, which has no children. Takes no memory.
@@ -79,10 +99,23 @@ impl Places {
     {
         let (parent, name) = parts(path);
         self.nodes.remove(path);
-        if let Some(up) = self.nodes.get_mut(parent) {
-            up.names.remove(name);
-            up.numbers.deletions = up.numbers.deletions.saturating_add(1);
-            up.numbers.pzxid = at.zxid;
+        self.count_deletion(parent, name, at);
+    }
+
+    // One child less of the parent. Takes no memory.
+    fn count_deletion(&mut self, parent: &str, name: &str, at: &Moment)
+        ensures { IsCountedOut parent.now name.now at.now.zxid self.old.nodes.entries self.new.nodes.entries }
+    {
+        match self.nodes.get_mut(parent) {
+            Some(up) => {
+                up.names.remove(name);
+                up.numbers = Numbers {
+                    deletions: up.numbers.deletions.saturating_add(1),
+                    pzxid: at.zxid,
+                    ..up.numbers
+                };
+            }
+            None => {}
         }
     }
 
@@ -93,10 +126,7 @@ impl Places {
             → Holds self.new (change p (with_content at.now content) es) }
     {
         if let Some(node) = self.nodes.get_mut(path) {
-            node.content = content;
-            node.numbers.mzxid = at.zxid;
-            node.numbers.mtime = at.time;
-            node.numbers.version = node.numbers.version.saturating_add(1);
+            node.set_content(content, at);
         }
     }
 
@@ -107,7 +137,7 @@ impl Places {
             → Holds self.new (change p with_acl es) }
     {
         if let Some(node) = self.nodes.get_mut(path) {
-            node.numbers.aversion = node.numbers.aversion.saturating_add(1);
+            node.count_acl();
         }
     }
 }

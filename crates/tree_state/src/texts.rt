@@ -9,9 +9,11 @@ ghost use Rattle.tree_state.specs.Commands.{IsTextOf};
 pub(crate) fn parts(path: &str) -> (&str, &str)
     ensures { (n : List ℕ) (p : Path) → IsTextOf path.now (n ∷ p) → (result.0.now ≡ text_of p) × (result.1.now ≡ n) }
 {
-    match path.rsplit_once('/') {
-        Some(("", name)) => ("/", name),
-        Some(cut) => cut,
-        None => ("/", path),
+    let Some((parent, name)) = path.rsplit_once('/') else {
+        return ("/", path);
+    };
+    if parent.is_empty() {
+        return ("/", name);
     }
+    (parent, name)
 }
