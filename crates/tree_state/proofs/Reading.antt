@@ -85,20 +85,20 @@ told_acl naming at c s p n acls stat f e k =
     tells_only s _ _ (acl_found naming at c s p (node_of n) h.plain
       ∙ ap (λ (x : Stat). told_only s (outcomes.Acls (Some (open_acl ∷ [])) x)) st ∙ ap (λ (x : List Acl). told_only s (outcomes.Acls (Some x) stat)) (sym e))
 
-pub told_names : (naming : Naming) (at : Moment) (c : ℕ) (s : State) (p : Path) (n : code.Node) (names : List (List ℕ)) → IsFound s.nodes p (Some n) → names ≡ map string_bytes n.names.keys
-    → Tells s (answer naming at c s (get_children p false false)) (outcomes.Children (Some names))
+pub told_names : (naming : Naming) (at : Moment) (c : ℕ) (s : State) (p : Path) (b : Bool) (n : code.Node) (names : List (List ℕ)) → b ≡ false → IsFound s.nodes p (Some n) → names ≡ map string_bytes n.names.keys
+    → Tells s (answer naming at c s (get_children p false b)) (outcomes.Children (Some names))
 unfolding names_with
-told_names naming at c s p n names f e =
+told_names naming at c s p b n names off f e =
     let h = present s.nodes p n f in
-    tells_only s _ _ (children_found naming at c s p false (node_of n) h.plain ∙ ap (λ (x : List (List ℕ)). told_only s (outcomes.Children (Some x))) (sym (e ∙ h.names)))
+    tells_only s _ _ (children_found naming at c s p b (node_of n) h.plain ∙ ap (λ (x : Bool). told_only s (names_with x s.nodes p (node_of n))) off ∙ ap (λ (x : List (List ℕ)). told_only s (outcomes.Children (Some x))) (sym (e ∙ h.names)))
 
-pub told_names_stat : (naming : Naming) (at : Moment) (c : ℕ) (s : State) (p : Path) (n : code.Node) (names : List (List ℕ)) (stat : Stat) → IsFound s.nodes p (Some n) → names ≡ map string_bytes n.names.keys → (IsSmall n → stat ≡ kept_stat n)
-    → Tells s (answer naming at c s (get_children p false true)) (outcomes.Children2 (Some names) stat)
+pub told_names_stat : (naming : Naming) (at : Moment) (c : ℕ) (s : State) (p : Path) (b : Bool) (n : code.Node) (names : List (List ℕ)) (stat : Stat) → b ≡ true → IsFound s.nodes p (Some n) → names ≡ map string_bytes n.names.keys → (IsSmall n → stat ≡ kept_stat n)
+    → Tells s (answer naming at c s (get_children p false b)) (outcomes.Children2 (Some names) stat)
 unfolding names_with
-told_names_stat naming at c s p n names stat f e k =
+told_names_stat naming at c s p b n names stat on f e k =
     let h = present s.nodes p n f in
     let st = sym (k h.small ∙ stat_is s.nodes p n h) in
-    tells_only s _ _ (children_found naming at c s p true (node_of n) h.plain
+    tells_only s _ _ (children_found naming at c s p b (node_of n) h.plain ∙ ap (λ (x : Bool). told_only s (names_with x s.nodes p (node_of n))) on
       ∙ ap (λ (x : Stat). told_only s (outcomes.Children2 (Some (child_names p s.nodes)) x)) st ∙ ap (λ (x : List (List ℕ)). told_only s (outcomes.Children2 (Some x) stat)) (sym (e ∙ h.names)))
 
 -- no node is read where none is

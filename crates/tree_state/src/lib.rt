@@ -6,11 +6,9 @@ mod held;
 mod message;
 mod node;
 mod places;
-mod scratch;
 mod session;
 mod texts;
 mod tree;
 
 pub use message::{Message, Output, Outputs};
-pub use scratch::probe;
 pub use tree::Tree;
