@@ -17,3 +17,4 @@ pub mod Root
 pub mod Copied
 pub mod Rows
 pub mod Reading
+pub mod Alone
