@@ -1,0 +1,2 @@
+mod SessionLists
+mod SessionMaps

@@ -1,0 +1,8 @@
+use Rattle.tree_state.proofs.session.Sessions.hear.Goals as goal
+use Rattle.tree_state.proofs.SessionMaps.{written}
+
+pub returns-in-Some : goal.returns-in-Some
+returns-in-Some c = ?
+
+pub returns-in_default : goal.returns-in_default
+returns-in_default c = ?
