@@ -1,2 +1,3 @@
 mod SessionLists
 mod SessionMaps
+mod SessionTies

@@ -1,5 +1,5 @@
 use Rattle.tree_state.proofs.session.Sessions.hear.Goals as goal
-use Rattle.tree_state.proofs.SessionMaps.{written}
+use Rattle.tree_state.proofs.SessionTies.{same_connection}
 
 pub returns-in-Some : goal.returns-in-Some
 returns-in-Some c = ?
