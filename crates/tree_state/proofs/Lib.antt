@@ -1,3 +1,4 @@
 mod SessionLists
 mod SessionMaps
 mod SessionTies
+mod SessionExits
