@@ -1,15 +1,22 @@
 -- What two maps keep of the sessions, at each end of each function.
-use Rattle.std.proofs.Common.{◌≡◌, ℕ, ℤ, pos, Bool, true, false, cond, List, [], ◌∷◌, ◌++◌, map, Option, Some, None, All, BTreeMap, int_cmp, int_eq, nat_cmp, refl, sym, ap, ap₂, ◌∙◌, subst, inl, inr}
+use Rattle.std.proofs.Common.{◌≡◌, ℕ, ℤ, pos, Bool, true, false, cond, List, [], ◌∷◌, ◌++◌, map, Option, Some, None, All, BTreeMap, int_cmp, int_eq, nat_cmp, refl, sym, ap, ap₂, ◌∙◌, subst, inl, inr, FitsSigned, w32, to_z, of_z}
 use Rattle.std.specs.BTreeMap.{IsOrdered, IsUnchanged, Updates, UpdatesBy, WritesThrough, get, insert_entry}
+use Rattle.std.specs.Cmp.{signed_Decides}
+use Rattle.std.specs.Int.{int_max, int_min}
+use Rattle.std.specs.Option.{option_map}
 use Rattle.std.specs.Map.{lookup, set_value, remove_entry}
 use Rattle.std.proofs.lemmas.Bool.{cases_Bool, both_ways}
-use Rattle.std.proofs.lemmas.List.Elements.{All-push}
+use Rattle.std.proofs.lemmas.Int.{to_z-of_z}
+use Rattle.std.proofs.lemmas.List.Elements.{All-nil, All-push}
+use Rattle.zk_records.specs.declared.connect.ConnectRequest.{ConnectRequest}
+use Rattle.tree_state.specs.declared.session.Given.{Given}
 use Rattle.tree_state.specs.declared.session.Session as code
 use Rattle.tree_state.specs.declared.session.Sessions.{Sessions}
 use Rattle.tree_state.specs.State.{Session, session_of, session_at, is_numbered, changed_session, change_session, heard_at, moved_to, without_session, without_connection}
+use Rattle.tree_state.specs.Step.{clamped, given_to, given_live, is_password_of, no_session}
 use Rattle.tree_state.specs.Sessions.{Keeps, Owning, OwnsPaths, OwnTexts, AreBelow, IsOnOne, session_at_key}
 use Rattle.tree_state.proofs.SessionLists.{AreDistinct, AreTied, number_of, is_number, same_number, is_on, all_live, same_all, nothing_changed, nothing_lost, nothing_gone, above_all, own_number}
-use Rattle.tree_state.proofs.SessionMaps.{is_key, sessions_of, found, not_found, sorted_distinct, written, removed, distinct_before, inserted, owns_elsewhere, owns_found, owns_removed, owns_written}
+use Rattle.tree_state.proofs.SessionMaps.{is_key, sessions_of, at_key, found, not_found, sorted_distinct, written, removed, distinct_before, inserted, owns_elsewhere, owns_found, owns_removed, owns_written}
 use Rattle.tree_state.proofs.SessionTies.{is_connection, other_session, same_ties}
 
 abbrev pub Live : Type 0
@@ -60,11 +67,24 @@ rewritten t live k f v w xs owned after order h writes value numbers connections
   where
     distinct : AreDistinct (sessions_of t.live.entries)
     distinct = sorted_distinct t.live.entries order
+
     now : sessions_of live.entries ≡ change_session k f xs
     now = ap sessions_of writes.0 ∙ written k f t.live.entries v w distinct h value ∙ ap (change_session k f) keeps.sessions
+
     ties : AreTied (get nat_cmp t.connections) (change_session k f xs)
     ties = same_ties (get nat_cmp t.connections) k f xs (kept_distinct t xs owned keeps order) (subst AreDistinct now (sorted_distinct live.entries writes.4))
         numbers connections (record { same = keeps.connections; one = keeps.one })
+
+-- ---- new
+
+pub none_kept : (t : Sessions) (owned : Owning) → t.live.entries ≡ [] → t.connections.entries ≡ [] → Keeps t [] owned
+unfolding session_of session_at
+none_kept t owned live connections = record {
+  sessions = ap sessions_of live;
+  connections = λ c. ap (lookup (is_connection c)) connections;
+  one = λ c x session h. absurd cc;
+  owns = subst (λ es. All (OwnsPaths owned) es) (sym live) (All-nil (OwnsPaths owned));
+}
 
 -- ---- hear (j is a number as the code has it, and k the same in the clause)
 
@@ -74,12 +94,66 @@ pub heard : (t : Sessions) (live : Live) (j k now : ℤ) (v w : code.Session) (x
 unfolding heard_at session_at_key
 heard t live j k now v w xs owned same order h writes value keeps =
     subst (λ (z : ℤ). Keeps (with_maps live t.connections) (change_session z (heard_at now) xs) owned) same
-        (rewritten t live j (heard_at now) v w xs owned owned order (sym h) writes (ap (λ (u : code.Session). session_at_key (j, u)) value) (λ _. refl) (λ _. refl) (λ _ _. refl)
-            (subst (λ (u : code.Session). OwnTexts u.ephemerals.items (owned j)) (sym value) (owns_found j owned t.live.entries v (sym h) keeps.owns)) keeps)
+    (rewritten t live j (heard_at now) v w xs owned owned order (sym h) writes (ap (λ (u : code.Session). session_at_key (j, u)) value) (λ _. refl) (λ _. refl) (λ _ _. refl)
+    (subst (λ (u : code.Session). OwnTexts u.ephemerals.items (owned j)) (sym value) (owns_found j owned t.live.entries v (sym h) keeps.owns)) keeps)
 
 pub not_heard : (t : Sessions) (live : Live) (j k : ℤ) (f : Session → Session) (xs : List Session) (owned : Owning) → j ≡ k
     → None ≡ get int_cmp t.live j → live ≡ t.live → Keeps t xs owned → Keeps (with_maps live t.connections) (change_session k f xs) owned
 not_heard t live j k f xs owned same h stays keeps =
     subst (λ (ys : List Session). Keeps (with_maps live t.connections) ys owned)
-        (sym (nothing_changed j f xs (not_kept t xs owned j keeps (sym h))) ∙ ap (λ (z : ℤ). change_session z f xs) same)
-        (kept_same t live t.connections xs owned (ap (λ (m : Live). m.entries) stays) (λ _. refl) keeps)
+    (sym (nothing_changed j f xs (not_kept t xs owned j keeps (sym h))) ∙ ap (λ (z : ℤ). change_session z f xs) same)
+    (kept_same t live t.connections xs owned (ap (λ (m : Live). m.entries) stays) (λ _. refl) keeps)
+
+-- ---- given
+
+pub clamped_so : (asked r : ℤ) → FitsSigned w32 asked → FitsSigned w32 r → r ≡ int_max (pos 4000) (int_min (to_z w32 (of_z w32 asked)) (pos 40000)) → to_z w32 (of_z w32 r) ≡ clamped asked
+unfolding clamped
+clamped_so asked r f g h = to_z-of_z w32 r g ∙ h ∙ ap (λ (z : ℤ). int_max (pos 4000) (int_min z (pos 40000))) (to_z-of_z w32 asked f)
+
+pub given_of : (a b c d : ℤ) (password : List ℕ) → a ≡ b → c ≡ d
+    → ◌≡◌ {A = Given} (record { session = a; timeout = c; password = password }) (record { session = b; timeout = d; password = password })
+given_of a b c d password h k = ap₂ {C = Given} (λ (y z : ℤ). record { session = y; timeout = z; password = password }) h k
+
+is_zero : (asked : ConnectRequest) → asked.session ≡ pos 0 → int_eq asked.session (pos 0) ≡ true
+is_zero asked h = (signed_Decides asked.session (pos 0)).1 h
+
+not_zero : (asked : ConnectRequest) → (asked.session ≡ pos 0 → ⊥) → int_eq asked.session (pos 0) ≡ false
+not_zero asked h = elim (cases_Bool (int_eq asked.session (pos 0))) [ inl zero ↦ absurd (h (same_number asked.session (pos 0) zero)) | inr other ↦ other ]
+
+pub given_fresh : (xs : List Session) (asked : ConnectRequest) (fresh : ℤ) (password : List ℕ) → asked.session ≡ pos 0
+    → given_to xs asked fresh password ≡ record { session = fresh; timeout = clamped asked.timeout; password = password }
+unfolding given_to
+given_fresh xs asked fresh password h = rw (is_zero asked h) refl
+
+given_at : (t : Sessions) (xs : List Session) (owned : Owning) (asked : ConnectRequest) (fresh : ℤ) (password : List ℕ) (o : Option code.Session)
+    → (asked.session ≡ pos 0 → ⊥) → o ≡ get int_cmp t.live asked.session → Keeps t xs owned
+    → given_to xs asked fresh password ≡ given_live asked (option_map (λ (v : code.Session). session_at_key (asked.session, v)) o)
+unfolding given_to
+given_at t xs owned asked fresh password o h k keeps =
+    let s : session_at asked.session xs ≡ option_map (λ (v : code.Session). session_at_key (asked.session, v)) o =
+    ap (session_at asked.session) (sym keeps.sessions) ∙ at_key asked.session t.live.entries ∙ ap (option_map (λ (v : code.Session). session_at_key (asked.session, v))) (sym k) in
+    rw (not_zero asked h) (ap (given_live asked) s)
+
+pub given_known : (t : Sessions) (xs : List Session) (owned : Owning) (asked : ConnectRequest) (fresh : ℤ) (password : List ℕ) (v : code.Session)
+    → (asked.session ≡ pos 0 → ⊥) → Some v ≡ get int_cmp t.live asked.session
+    → ((session : ℤ) → true ≡ is_password_of asked.password (session_at_key (session, v))) → Keeps t xs owned
+    → given_to xs asked fresh password ≡ record { session = asked.session; timeout = clamped asked.timeout; password = v.password }
+unfolding given_live session_at_key
+given_known t xs owned asked fresh password v h k p keeps =
+    given_at t xs owned asked fresh password (Some v) h k keeps
+    ∙ ap (λ (b : Bool). cond b (record { session = asked.session; timeout = clamped asked.timeout; password = v.password }) no_session) (sym (p asked.session))
+
+pub given_wrong : (t : Sessions) (xs : List Session) (owned : Owning) (asked : ConnectRequest) (fresh : ℤ) (password : List ℕ) (v : code.Session)
+    → (asked.session ≡ pos 0 → ⊥) → Some v ≡ get int_cmp t.live asked.session
+    → ((session : ℤ) → false ≡ is_password_of asked.password (session_at_key (session, v))) → Keeps t xs owned
+    → given_to xs asked fresh password ≡ no_session
+unfolding given_live session_at_key
+given_wrong t xs owned asked fresh password v h k p keeps =
+    given_at t xs owned asked fresh password (Some v) h k keeps
+    ∙ ap (λ (b : Bool). cond b (record { session = asked.session; timeout = clamped asked.timeout; password = v.password }) no_session) (sym (p asked.session))
+
+pub given_unknown : (t : Sessions) (xs : List Session) (owned : Owning) (asked : ConnectRequest) (fresh : ℤ) (password : List ℕ)
+    → (asked.session ≡ pos 0 → ⊥) → None ≡ get int_cmp t.live asked.session → Keeps t xs owned
+    → given_to xs asked fresh password ≡ no_session
+unfolding given_live
+given_unknown t xs owned asked fresh password h k keeps = given_at t xs owned asked fresh password None h k keeps

@@ -48,7 +48,7 @@ number_of k [] x h = absurd (none_live k x h)
 number_of k (y ∷ ys) x h = elim (cases_Bool (is_numbered k y)) [
   | inl numbered ↦ let e = at_first k y ys numbered in let n = is_number k y numbered in cc
   | inr other ↦ number_of k ys x (sym (at_others k y ys other) ∙ h)
-  ]
+]
 
 -- a number that no session has
 pub others_first : (k : ℤ) (x : Session) (xs : List Session) → session_at k (x ∷ xs) ≡ None → is_numbered k x ≡ false
@@ -113,7 +113,7 @@ is_on c k (x ∷ xs) d h = elim (cases_Bool (has_connection c x)) [
       record { session = x; live = at_first k x xs (subst (λ (z : ℤ). is_numbered z x ≡ true) n (own_number x)); on = has_its c x on }
   | inr off ↦ let r = is_on c k xs d.1 (sym (on_others c x xs off) ∙ h) in
       record { session = r.session; live = live_behind k x r.session xs d.0 r.live; on = r.on }
-  ]
+]
 
 -- a live session on a connection is not overlooked
 pub not_off : (c : ℕ) (k : ℤ) (xs : List Session) (x : Session) → session_at k xs ≡ Some x → x.connection ≡ Some c → session_of c xs ≡ None → ⊥
@@ -121,7 +121,7 @@ not_off c k [] x h on off = none_live k x h
 not_off c k (y ∷ ys) x h on off = elim (cases_Bool (is_numbered k y)) [
   | inl numbered ↦ let e = at_first k y ys numbered in let o = off_first c y ys off in let s : y.connection ≡ Some c = cc in both_ways _ o (its_own c y s)
   | inr other ↦ not_off c k ys x (sym (at_others k y ys other) ∙ h) on (off_next c y ys off)
-  ]
+]
 
 -- what a map has of each connection is what the sessions say, and each connection has one
 pub record AreTied (g : ℕ → Option ℤ) (xs : List Session) : Type 0 where
@@ -137,6 +137,7 @@ tied g xs d there back = record { same = same; one = λ c x k live on. sym (same
     go c (Some k) h p e = let r = is_on c k xs d h in there c k r.session r.live r.on ∙ sym h
     go c None h None e = e ∙ sym h
     go c None h (Some k) e = let r = back c k e in absurd (not_off c k xs r.session r.live r.on h)
+
     same : (c : ℕ) → g c ≡ session_of c xs
     same c = go c (session_of c xs) refl (g c) refl
 

@@ -76,7 +76,7 @@ written k f (e ∷ es) v w d h s =
         let n = same_number k e.0 t in
         let o : e.1 ≡ v = cc in
         let here : session_at_key (e.0, w) ≡ f (session_at_key e) =
-            ap (λ (z : ℤ). session_at_key (z, w)) (sym n) ∙ s ∙ ap₂ (λ (z : ℤ) (u : code.Session). f (session_at_key (z, u))) n (sym o) in
+        ap (λ (z : ℤ). session_at_key (z, w)) (sym n) ∙ s ∙ ap₂ (λ (z : ℤ) (u : code.Session). f (session_at_key (z, u))) n (sym o) in
         let alone : session_at k (sessions_of es) ≡ None = subst (λ (z : ℤ). session_at z (sessions_of es) ≡ None) (sym n) d.0 in
         ap₂ (λ (x : Session) (xs : List Session). x ∷ xs) here (sym (nothing_changed k f (sessions_of es) alone))
     go false t h ih = ap (λ (xs : List Session). session_at_key e ∷ xs) (ih h s)
@@ -131,8 +131,8 @@ unfolding is_numbered session_at_key
 owns_elsewhere k owned after [] alone same h = All-nil (OwnsPaths after)
 owns_elsewhere k owned after (e ∷ es) alone same h =
     All-cons (OwnsPaths after) e es
-        (subst (λ (ps : List Path). OwnTexts e.1.ephemerals.items ps) (sym (same e.0 (others_first k (session_at_key e) (sessions_of es) alone))) (All-head (OwnsPaths owned) e es h))
-        (owns_elsewhere k owned after es (others_next k (session_at_key e) (sessions_of es) alone) same (All-tail (OwnsPaths owned) e es h))
+    (subst (λ (ps : List Path). OwnTexts e.1.ephemerals.items ps) (sym (same e.0 (others_first k (session_at_key e) (sessions_of es) alone))) (All-head (OwnsPaths owned) e es h))
+    (owns_elsewhere k owned after es (others_next k (session_at_key e) (sessions_of es) alone) same (All-tail (OwnsPaths owned) e es h))
 
 -- of a session that is found
 pub owns_found : (k : ℤ) (owned : Owning) (es : Entries) (v : code.Session) → lookup (is_key k) es ≡ Some v → All (OwnsPaths owned) es → OwnTexts v.ephemerals.items (owned k)
@@ -169,4 +169,4 @@ owns_written k owned after (e ∷ es) w d same own h =
         All-cons (OwnsPaths after) (e.0, w) es (subst (λ (z : ℤ). OwnTexts w.ephemerals.items (after z)) n own) (owns_elsewhere k owned after es alone same (All-tail (OwnsPaths owned) e es h))
     go false t ih =
         All-cons (OwnsPaths after) e (set_value (is_key k) es w)
-            (subst (λ (ps : List Path). OwnTexts e.1.ephemerals.items ps) (sym (same e.0 (int_eq_equiv.symm e.0 k ∙ t))) (All-head (OwnsPaths owned) e es h)) ih
+        (subst (λ (ps : List Path). OwnTexts e.1.ephemerals.items ps) (sym (same e.0 (int_eq_equiv.symm e.0 k ∙ t))) (All-head (OwnsPaths owned) e es h)) ih

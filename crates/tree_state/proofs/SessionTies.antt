@@ -47,13 +47,13 @@ changed_number : (k : ℤ) (f : Session → Session) → ((x : Session) → (f x
 changed_number k f keeps x = elim (cases_Bool (is_numbered k x)) [
   | inl numbered ↦ ap (λ (y : Session). y.number) (changed_yes k f x numbered) ∙ keeps x
   | inr other ↦ ap (λ (y : Session). y.number) (changed_no k f x other)
-  ]
+]
 
 changed_connection : (k : ℤ) (f : Session → Session) → ((x : Session) → (f x).connection ≡ x.connection) → (x : Session) → (changed_session k f x).connection ≡ x.connection
 changed_connection k f keeps x = elim (cases_Bool (is_numbered k x)) [
   | inl numbered ↦ ap (λ (y : Session). y.connection) (changed_yes k f x numbered) ∙ keeps x
   | inr other ↦ ap (λ (y : Session). y.connection) (changed_no k f x other)
-  ]
+]
 
 -- the session with a number after a change
 at_change : (k j : ℤ) (f : Session → Session) (xs : List Session) → ((x : Session) → (f x).number ≡ x.number)
@@ -67,15 +67,15 @@ pub same_ties : (g : ℕ → Option ℤ) (k : ℤ) (f : Session → Session) (xs
     → AreTied g xs → AreTied g (change_session k f xs)
 same_ties g k f xs d e numbers connections t = tied g (change_session k f xs) e
     (λ c j y live on.
-        let r = from_map (changed_session k f) (session_at j xs) y (sym (at_change k j f xs numbers) ∙ live) in
-        t.same c ∙ t.one c r.0 j r.1 (sym (changed_connection k f connections r.0) ∙ ap (λ (z : Session). z.connection) r.2 ∙ on))
+    let r = from_map (changed_session k f) (session_at j xs) y (sym (at_change k j f xs numbers) ∙ live) in
+    t.same c ∙ t.one c r.0 j r.1 (sym (changed_connection k f connections r.0) ∙ ap (λ (z : Session). z.connection) r.2 ∙ on))
     (λ c j h.
-        let r = is_on c j xs d (sym (t.same c) ∙ h) in
-        record {
-          session = changed_session k f r.session;
-          live = at_change k j f xs numbers ∙ ap (option_map (changed_session k f)) r.live;
-          on = changed_connection k f connections r.session ∙ r.on;
-        })
+    let r = is_on c j xs d (sym (t.same c) ∙ h) in
+    record {
+      session = changed_session k f r.session;
+      live = at_change k j f xs numbers ∙ ap (option_map (changed_session k f)) r.live;
+      on = changed_connection k f connections r.session ∙ r.on;
+    })
 
 -- the session moves to a connection that had none, and the one that it had has none
 pub moved_ties : (g : ℕ → Option ℤ) (k : ℤ) (d : ℕ) (timeout now : ℤ) (x : Session) (xs : List Session)
@@ -89,6 +89,7 @@ moved_ties g k d timeout now x xs before after one here free new old others = ti
   where
     f : Session → Session
     f y = record y { timeout = timeout; heard = now; connection = Some d }
+
     there : (c : ℕ) (j : ℤ) (y : Session) → session_at j (change_session k f xs) ≡ Some y → y.connection ≡ Some c → g c ≡ Some j
     there c j y live on =
         let r = from_map (changed_session k f) (session_at j xs) y (sym (at_change k j f xs (λ _. refl)) ∙ live) in
@@ -107,8 +108,9 @@ moved_ties g k d timeout now x xs before after one here free new old others = ti
               elim (cases_Bool (is_connection d c)) [
                 | inl same ↦ let s = same_connection d c same in let n : session_of c xs ≡ None = subst (λ (z : ℕ). session_of z xs ≡ None) s free in absurd cc
                 | inr else ↦ others c else (λ h. let i = one c x k here h in let n : j ≡ k = cc in apart n) ∙ its
-                ]
-          ]
+              ]
+        ]
+
     back : (c : ℕ) (j : ℤ) → g c ≡ Some j → IsOn (change_session k f xs) c j
     back c j h = elim (cases_Bool (is_connection d c)) [
       | inl same ↦
@@ -133,13 +135,13 @@ moved_ties g k d timeout now x xs before after one here free new old others = ti
                       let i : x.connection ≡ Some c = cc in
                       absurd (both_ways _ off (its_own c x i))
                   | inr other ↦ record {
-                      session = r.session;
-                      live = at_change k j f xs (λ _. refl) ∙ ap (option_map (changed_session k f)) r.live ∙ ap Some (changed_no k f r.session other);
-                      on = r.on;
-                    }
-                  ]
-            ]
-      ]
+                    session = r.session;
+                    live = at_change k j f xs (λ _. refl) ∙ ap (option_map (changed_session k f)) r.live ∙ ap Some (changed_no k f r.session other);
+                    on = r.on;
+                  }
+                ]
+          ]
+    ]
 
 -- a new session comes to a connection that had none
 pub opened_ties : (g : ℕ → Option ℤ) (d : ℕ) (x : Session) (xs : List Session)
@@ -153,7 +155,8 @@ opened_ties g d x xs before after one fresh free on new others = tied g (xs ++ x
     alone j y h = elim (cases_Bool (is_numbered j x)) [
       | inl numbered ↦ (let e = at_first j x [] numbered in cc, is_number j x numbered)
       | inr other ↦ absurd (none_live j y (sym (at_others j x [] other) ∙ h))
-      ]
+    ]
+
     there_from : (c : ℕ) (j : ℤ) (y : Session) (o : Option Session) → session_at j xs ≡ o → option_or o (session_at j (x ∷ [])) ≡ Some y → y.connection ≡ Some c → g c ≡ Some j
     there_from c j y (Some z) h l k =
         let s : z ≡ y = cc in
@@ -161,14 +164,16 @@ opened_ties g d x xs before after one fresh free on new others = tied g (xs ++ x
         elim (cases_Bool (is_connection d c)) [
           | inl same ↦ let e = same_connection d c same in let n : session_of c xs ≡ None = subst (λ (u : ℕ). session_of u xs ≡ None) e free in absurd cc
           | inr else ↦ others c else ∙ its
-          ]
+        ]
     there_from c j y None h l k =
         let r = alone j y l in
         let o : Some d ≡ Some c = sym on ∙ ap (λ (u : Session). u.connection) r.0 ∙ k in
         let s : d ≡ c = cc in
         ap g (sym s) ∙ new ∙ ap Some r.1
+
     there : (c : ℕ) (j : ℤ) (y : Session) → session_at j (xs ++ x ∷ []) ≡ Some y → y.connection ≡ Some c → g c ≡ Some j
     there c j y live k = there_from c j y (session_at j xs) refl (sym (at_more j x xs) ∙ live) k
+
     back : (c : ℕ) (j : ℤ) → g c ≡ Some j → IsOn (xs ++ x ∷ []) c j
     back c j h = elim (cases_Bool (is_connection d c)) [
       | inl same ↦
@@ -187,7 +192,7 @@ opened_ties g d x xs before after one fresh free on new others = tied g (xs ++ x
             live = at_more j x xs ∙ ap (λ (o : Option Session). option_or o (session_at j (x ∷ []))) r.live;
             on = r.on;
           }
-      ]
+    ]
 
 pub keeps_number : (c : ℕ) (x : Session) → (without_connection c x).number ≡ x.number
 unfolding without_connection
@@ -226,8 +231,9 @@ lost_ties g d xs before after one old others = tied g (map (without_connection d
               elim (cases_Bool (is_connection d c)) [
                 | inl same ↦ absurd (both_ways _ off (its_own d r.0 (o ∙ ap Some (sym (same_connection d c same)))))
                 | inr else ↦ others c else ∙ one c r.0 j r.1 o
-                ]
-          ]
+              ]
+        ]
+
     back : (c : ℕ) (j : ℤ) → g c ≡ Some j → IsOn (map (without_connection d) xs) c j
     back c j h = elim (cases_Bool (is_connection d c)) [
       | inl same ↦ let e : g c ≡ None = subst (λ (u : ℕ). g u ≡ None) (same_connection d c same) old in absurd cc
@@ -236,12 +242,12 @@ lost_ties g d xs before after one old others = tied g (map (without_connection d
           elim (cases_Bool (has_connection d r.session)) [
             | inl has ↦ absurd (other_connection d c else (sym (has_its d r.session has) ∙ r.on))
             | inr off ↦ record {
-                session = r.session;
-                live = at_changed (without_connection d) (keeps_number d) j xs ∙ ap (option_map (without_connection d)) r.live ∙ ap Some (stays d r.session off);
-                on = r.on;
-              }
-            ]
-      ]
+              session = r.session;
+              live = at_changed (without_connection d) (keeps_number d) j xs ∙ ap (option_map (without_connection d)) r.live ∙ ap Some (stays d r.session off);
+              on = r.on;
+            }
+          ]
+    ]
 
 -- a session ends, and its connection has none
 pub ended_ties : (g : ℕ → Option ℤ) (k : ℤ) (x : Session) (xs : List Session)
@@ -257,7 +263,8 @@ ended_ties g k x xs before after one here old others = tied g (without_session k
       | inr other ↦
           let its = one c y j (sym (at_without k j xs other) ∙ live) on in
           others c (λ h. let i = one c x k here h in let n : j ≡ k = cc in both_ways _ other (subst (λ (z : ℤ). int_eq j z ≡ true) n (int_eq_equiv.refl j))) ∙ its
-      ]
+    ]
+
     back : (c : ℕ) (j : ℤ) → g c ≡ Some j → IsOn (without_session k xs) c j
     back c j h = elim (cases_Bool (has_connection c x)) [
       | inl on ↦ let e = old c (has_its c x on) in absurd cc
@@ -270,5 +277,5 @@ ended_ties g k x xs before after one here old others = tied g (without_session k
                 let i : x.connection ≡ Some c = cc in
                 absurd (both_ways _ off (its_own c x i))
             | inr other ↦ record { session = r.session; live = at_without k j xs other ∙ r.live; on = r.on }
-            ]
-      ]
+          ]
+    ]

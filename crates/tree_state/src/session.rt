@@ -1,13 +1,15 @@
 //! The live sessions and their connections.
 
-ghost use Rattle.std.specs.Prelude.{◌≡◌, ◌<ℤ◌, ℕ, ℤ, pos, List, [], ◌∷◌, ◌++◌, Bool, true, false, Some, None, if◌then◌else◌, map, filter, IfOk, IfErr, OnOk, OnErr};
+ghost use Rattle.std.specs.Prelude.{◌≡◌, ◌<ℤ◌, ℕ, ℤ, pos, List, [], ◌∷◌, ◌++◌, Bool, true, false, Some, None, if◌then◌else◌, map, filter, IfOk, IfErr, IsSome, OnOk, OnErr};
+ghost use Rattle.std.specs.BTreeMap.{Updates, get};
+ghost use Rattle.std.specs.Ordering.{nat_cmp};
 ghost use Rattle.std.specs.String.{string_bytes};
 ghost use Rattle.zk_path.specs.Paths.{text_of};
 ghost use Rattle.tree_state.specs.Commands.{IsTextOf};
 ghost use Rattle.tree_state.specs.Nodes.{Path};
 ghost use Rattle.tree_state.specs.State.{Session as PlainSession, session_of, session_at, change_session, heard_at, without_session, without_connection};
-ghost use Rattle.tree_state.specs.Step.{given_to, with_session, with_moved};
-ghost use Rattle.tree_state.specs.Sessions.{Keeps, AreBelow, Owning, with_owned, without_owned, OwnTexts};
+ghost use Rattle.tree_state.specs.Step.{given_to, is_password_of, no_session as nothing_given, with_session, with_moved};
+ghost use Rattle.tree_state.specs.Sessions.{Keeps, AreBelow, Owning, session_at_key, with_owned, without_owned, OwnTexts};
 
 use jute_core::Memory;
 use std::alloc::Global;
@@ -92,13 +94,19 @@ impl Sessions {
     }
 
     /// A new session, above all others, on a connection that has none. Without memory all is as it was.
-    pub(crate) fn open(&mut self, alloc: Global, given: &Given, now: i64, connection: u32) -> Result<(), Memory>
+    pub(crate) fn open(
+        &mut self,
+        alloc: Global,
+        given: &Given,
+        now: i64,
+        connection: u32,
+    ) -> Result<(), Memory>
         ensures ok { OnOk result ((xs : List PlainSession) (owned : Owning) → Keeps self.old xs owned
             → session_of connection xs ≡ None → AreBelow given.now.session xs → owned given.now.session ≡ []
             → Keeps self.new (with_session given.now now connection xs) owned) }
         ensures err { OnErr result ((xs : List PlainSession) (owned : Owning) → Keeps self.old xs owned → Keeps self.new xs owned) }
     {
-        self.connections.insert(connection, given.session)?;
+        let before = self.connections.insert(connection, given.session)?;
         let session = Session {
             timeout: given.timeout,
             password: given.password,
@@ -107,7 +115,7 @@ impl Sessions {
             ephemerals: Vec::new(alloc),
         };
         if self.live.insert(given.session, session).is_err() {
-            self.connections.remove(&connection);
+            put_back(&mut self.connections, connection, before);
             return Err(Memory);
         }
         Ok(())
@@ -150,8 +158,9 @@ impl Sessions {
             → Keeps self.new xs (with_owned session p owned)) }
         ensures err { OnErr result ((xs : List PlainSession) (owned : Owning) → Keeps self.old xs owned → Keeps self.new xs owned) }
     {
+        let path = path.to_string(alloc)?;
         if let Some(live) = self.live.get_mut(&session) {
-            live.ephemerals.push(path.to_string(alloc)?)?;
+            live.ephemerals.push(path)?;
         }
         Ok(())
     }
@@ -185,16 +194,35 @@ impl Sessions {
 
 impl Session {
     // The request has the password of this session.
-    fn has_password(&self, asked: &ConnectRequest) -> bool {
+    #[tactic(auto, unfolding(crate::specs::Step::is_password_of, crate::specs::Sessions::session_at_key))]
+    fn has_password(&self, asked: &ConnectRequest) -> bool
+        ensures { (session : ℤ) → result ≡ is_password_of asked.now.password (session_at_key (session, self.now)) }
+    {
         match &asked.password {
-            Some(password) => password.as_slice() == self.password.as_slice(),
+            Some(password) => self.password.as_slice() == password.as_slice(),
             None => false,
         }
     }
 }
 
+// A connection that has a session has again what it had before. Takes no memory.
+fn put_back(connections: &mut BTreeMap<u32, i64>, connection: u32, before: Option<i64>)
+    ensures { IsSome (get nat_cmp connections.old connection) → Updates nat_cmp connections.old connections.new connection before }
+{
+    let Some(before) = before else {
+        connections.remove(&connection);
+        return;
+    };
+    if let Some(session) = connections.get_mut(&connection) {
+        *session = before;
+    }
+}
+
 // What a connect is given that gets no session.
-fn no_session() -> Given {
+#[tactic(auto, unfolding(crate::specs::Step::no_session))]
+fn no_session() -> Given
+    ensures { result ≡ nothing_given }
+{
     Given {
         session: 0,
         timeout: 0,
