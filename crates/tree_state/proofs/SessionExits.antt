@@ -8,16 +8,17 @@ use Rattle.std.specs.Map.{lookup, set_value, remove_entry}
 use Rattle.std.proofs.lemmas.Bool.{cases_Bool, both_ways}
 use Rattle.std.proofs.lemmas.Int.{to_z-of_z}
 use Rattle.std.proofs.lemmas.List.Elements.{All-nil, All-push}
+use Rattle.std.proofs.lemmas.List.{map-append}
 use Rattle.zk_records.specs.declared.connect.ConnectRequest.{ConnectRequest}
 use Rattle.tree_state.specs.declared.session.Given.{Given}
 use Rattle.tree_state.specs.declared.session.Session as code
 use Rattle.tree_state.specs.declared.session.Sessions.{Sessions}
 use Rattle.tree_state.specs.State.{Session, session_of, session_at, is_numbered, changed_session, change_session, heard_at, moved_to, without_session, without_connection}
-use Rattle.tree_state.specs.Step.{clamped, given_to, given_live, is_password_of, no_session}
+use Rattle.tree_state.specs.Step.{clamped, given_to, given_live, is_password_of, no_session, with_session, with_moved}
 use Rattle.tree_state.specs.Sessions.{Keeps, Owning, OwnsPaths, OwnTexts, AreBelow, IsOnOne, session_at_key}
 use Rattle.tree_state.proofs.SessionLists.{AreDistinct, AreTied, number_of, is_number, same_number, is_on, all_live, same_all, nothing_changed, nothing_lost, nothing_gone, above_all, own_number}
-use Rattle.tree_state.proofs.SessionMaps.{is_key, sessions_of, at_key, found, not_found, sorted_distinct, written, removed, distinct_before, inserted, owns_elsewhere, owns_found, owns_removed, owns_written}
-use Rattle.tree_state.proofs.SessionTies.{is_connection, other_session, same_ties}
+use Rattle.tree_state.proofs.SessionMaps.{is_key, sessions_of, at_key, found, not_found, sorted_distinct, written, removed, distinct_before, inserted, owns_elsewhere, owns_found, owns_removed, owns_written, owns_nothing, owns_more}
+use Rattle.tree_state.proofs.SessionTies.{is_connection, same_connection, other_session, same_ties, opened_ties, moved_ties, lost_ties, ended_ties}
 
 abbrev pub Live : Type 0
 Live = BTreeMap ℤ code.Session
@@ -28,6 +29,23 @@ Connections = BTreeMap ℕ ℤ
 -- the maps of the code, with other maps
 abbrev pub with_maps : Live → Connections → Sessions
 with_maps live connections = record { live = live; connections = connections }
+
+on_key : (j : ℤ) (v : code.Session) (c : ℕ) → (session_at_key (j, v)).connection ≡ Some c → v.connection ≡ Some c
+unfolding session_at_key
+on_key j v c h = h
+
+key_on : (j : ℤ) (v : code.Session) (c : ℕ) → v.connection ≡ Some c → (session_at_key (j, v)).connection ≡ Some c
+unfolding session_at_key
+key_on j v c h = h
+
+opens : (given : Given) (now : ℤ) (d : ℕ) (s : code.Session) → s.timeout ≡ given.timeout → s.password ≡ given.password → s.heard ≡ now → s.connection ≡ Some d
+    → session_at_key (given.session, s) ≡ record { number = given.session; timeout = given.timeout; password = given.password; heard = now; connection = Some d }
+unfolding session_at_key
+opens given now d s timeout password heard on = cc
+
+move_of : (j timeout now : ℤ) (d : ℕ) (v w : code.Session) → w ≡ record v { timeout = timeout; heard = now; connection = Some d } → session_at_key (j, w) ≡ moved_to d timeout now (session_at_key (j, v))
+unfolding session_at_key moved_to
+move_of j timeout now d v w h = ap (λ (u : code.Session). session_at_key (j, u)) h
 
 -- ---- what is kept says of each session
 
@@ -157,3 +175,61 @@ pub given_unknown : (t : Sessions) (xs : List Session) (owned : Owning) (asked :
     → given_to xs asked fresh password ≡ no_session
 unfolding given_live
 given_unknown t xs owned asked fresh password h k keeps = given_at t xs owned asked fresh password None h k keeps
+
+-- ---- open
+
+pub opened : (t : Sessions) (live : Live) (connections : Connections) (given : Given) (now : ℤ) (d : ℕ) (j m : ℤ) (s : code.Session) (xs : List Session) (owned : Owning)
+    → j ≡ given.session → m ≡ given.session
+    → s.timeout ≡ given.timeout → s.password ≡ given.password → s.heard ≡ now → s.connection ≡ Some d → s.ephemerals.items ≡ []
+    → IsOrdered int_cmp t.live → IsOrdered int_cmp live → live.entries ≡ insert_entry int_cmp t.live.entries j s
+    → Updates nat_cmp t.connections connections d (Some m) → Keeps t xs owned
+    → session_of d xs ≡ None → AreBelow given.session xs → owned given.session ≡ []
+    → Keeps (with_maps live connections) (with_session given now d xs) owned
+unfolding with_session
+opened t live connections given now d j m s xs owned key value timeout password heard on none before after inserts updates keeps free below own = record {
+  sessions = sessions;
+  connections = ties.same;
+  one = ties.one;
+  owns = subst (λ es. All (OwnsPaths owned) es) (sym entries) (All-push (OwnsPaths owned) t.live.entries (given.session, s) keeps.owns (owns_nothing s.ephemerals.items (owned given.session) none own));
+}
+  where
+    x : Session
+    x = record { number = given.session; timeout = given.timeout; password = given.password; heard = now; connection = Some d }
+    entries : live.entries ≡ t.live.entries ++ (given.session, s) ∷ []
+    entries = inserts ∙ ap (λ (z : ℤ). insert_entry int_cmp t.live.entries z s) key ∙ inserted given.session t.live.entries s (subst (AreBelow given.session) (sym keeps.sessions) below)
+    sessions : sessions_of live.entries ≡ xs ++ x ∷ []
+    sessions = ap sessions_of entries ∙ map-append session_at_key t.live.entries ((given.session, s) ∷ []) ∙ ap₂ (λ (ys : List Session) (y : Session). ys ++ y ∷ []) keeps.sessions (opens given now d s timeout password heard on)
+    ties : AreTied (get nat_cmp connections) (xs ++ x ∷ [])
+    ties = opened_ties (get nat_cmp connections) d x xs (kept_distinct t xs owned keeps before) (subst AreDistinct sessions (sorted_distinct live.entries after)) keeps.one
+        (above_all given.session xs below) free refl (updates.1 ∙ ap Some value) (λ c h. updates.2 c h ∙ keeps.connections c)
+
+-- ---- move_to
+
+-- what the map has of connections, once the session is on another
+pub record HasMoved (g : ℕ → Option ℤ) (k : ℤ) (d : ℕ) (old : Option ℕ) (xs : List Session) : Type 0 where
+  pub new : g d ≡ Some k
+  pub none : (c : ℕ) → old ≡ Some c → g c ≡ None
+  pub others : (c : ℕ) → is_connection d c ≡ false → (old ≡ Some c → ⊥) → g c ≡ session_of c xs
+
+pub moved : (t : Sessions) (live : Live) (connections : Connections) (given : Given) (now : ℤ) (d : ℕ) (j : ℤ) (v w : code.Session) (xs : List Session) (owned : Owning)
+    → j ≡ given.session → IsOrdered int_cmp t.live → Some v ≡ get int_cmp t.live j → WritesThrough int_cmp (int_cmp j) t.live w live
+    → w ≡ record v { timeout = given.timeout; heard = now; connection = Some d }
+    → HasMoved (get nat_cmp connections) given.session d v.connection xs → Keeps t xs owned → session_of d xs ≡ None
+    → Keeps (with_maps live connections) (with_moved given now d xs) owned
+unfolding with_moved
+moved t live connections given now d j v w xs owned key order h writes value has keeps free =
+    subst (λ (z : ℤ). Keeps (with_maps live connections) (change_session z (moved_to d given.timeout now) xs) owned) key (record {
+      sessions = sessions;
+      connections = ties.same;
+      one = ties.one;
+      owns = subst (λ es. All (OwnsPaths owned) es) (sym writes.0) (owns_written j owned owned t.live.entries w distinct (λ _ _. refl)
+          (subst (λ (u : code.Session). OwnTexts u.ephemerals.items (owned j)) (sym value) (owns_found j owned t.live.entries v (sym h) keeps.owns)) keeps.owns);
+    })
+  where
+    distinct : AreDistinct (sessions_of t.live.entries)
+    distinct = sorted_distinct t.live.entries order
+    sessions : sessions_of live.entries ≡ change_session j (moved_to d given.timeout now) xs
+    sessions = ap sessions_of writes.0 ∙ written j (moved_to d given.timeout now) t.live.entries v w distinct (sym h) (move_of j given.timeout now d v w value) ∙ ap (change_session j (moved_to d given.timeout now)) keeps.sessions
+    ties : AreTied (get nat_cmp connections) (change_session j (moved_to d given.timeout now) xs)
+    ties = moved_ties (get nat_cmp connections) j d given.timeout now (session_at_key (j, v)) xs (kept_distinct t xs owned keeps order) (subst AreDistinct sessions (sorted_distinct live.entries writes.4)) keeps.one
+        (kept_at t xs owned j v keeps (sym h)) free (has.new ∙ ap Some (sym key)) (λ c e. has.none c (on_key j v c e)) (λ c e n. has.others c e (λ o. n (key_on j v c o)))

@@ -6,11 +6,17 @@ use Rattle.std.specs.List.{AllByRecursion}
 use Rattle.std.specs.List.Sorted.{IsStrictlySortedBy}
 use Rattle.std.specs.Map.{keys_of, lookup, set_value, remove_entry}
 use Rattle.std.specs.Option.{option_map}
+use Rattle.std.specs.String.{string_bytes}
+use Rattle.std.specs.Prelude.{String}
+use Rattle.std.specs.Global.{Global}
+use Rattle.zk_path.specs.Paths.{text_of}
+use Rattle.std.proofs.lemmas.List.{map-append}
 use Rattle.std.specs.Ordering.{match_ordering}
 use Rattle.std.proofs.lemmas.List.Elements.{All-cons, All-head, All-nil, All-tail}
 use Rattle.std.proofs.lemmas.Map.Keys.{sorted_head, sorted_tail}
 use Rattle.tree_state.specs.declared.session.Session as code
 use Rattle.tree_state.specs.Nodes.{Path}
+use Rattle.tree_state.specs.Commands.{IsTextOf}
 use Rattle.tree_state.specs.State.{Session, is_numbered, session_at, changed_session, change_session, is_other_session, without_session}
 use Rattle.tree_state.specs.Sessions.{Owning, OwnsPaths, OwnTexts, AreBelow, session_at_key}
 use Rattle.tree_state.proofs.SessionLists.{AreDistinct, same_number, at_first, at_others, others_first, others_next, nothing_changed, nothing_gone, at_without}
@@ -170,3 +176,15 @@ owns_written k owned after (e ∷ es) w d same own h =
     go false t ih =
         All-cons (OwnsPaths after) e (set_value (is_key k) es w)
         (subst (λ (ps : List Path). OwnTexts e.1.ephemerals.items ps) (sym (same e.0 (int_eq_equiv.symm e.0 k ∙ t))) (All-head (OwnsPaths owned) e es h)) ih
+
+-- no texts are those of no paths
+pub owns_nothing : (texts : List (String Global)) (ps : List Path) → texts ≡ [] → ps ≡ [] → OwnTexts texts ps
+unfolding OwnTexts
+owns_nothing texts ps h k = ap (map string_bytes) h ∙ sym (ap (map text_of) k)
+
+-- one more path and its text
+pub owns_more : (texts after : List (String Global)) (ps : List Path) (text : String Global) (p : Path) → after ≡ texts ++ text ∷ []
+    → IsTextOf (string_bytes text) p → OwnTexts texts ps → OwnTexts after (ps ++ p ∷ [])
+unfolding OwnTexts
+owns_more texts after ps text p more is h =
+    ap (map string_bytes) more ∙ map-append string_bytes texts (text ∷ []) ∙ ap₂ (λ (xs ys : List (List ℕ)). xs ++ ys) h (ap (λ (b : List ℕ). b ∷ []) is.spelled) ∙ sym (map-append text_of ps (p ∷ []))

@@ -114,11 +114,13 @@ impl Sessions {
             connection: Some(connection),
             ephemerals: Vec::new(alloc),
         };
-        if self.live.insert(given.session, session).is_err() {
-            put_back(&mut self.connections, connection, before);
-            return Err(Memory);
+        match self.live.insert(given.session, session) {
+            Ok(_) => Ok(()),
+            Err(_) => {
+                put_back(&mut self.connections, connection, before);
+                Err(Memory)
+            }
         }
-        Ok(())
     }
 
     /// A live session moves to a connection that has none. Without memory all is as it was.

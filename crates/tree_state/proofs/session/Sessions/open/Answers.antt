@@ -1,18 +1,11 @@
-use Rattle.std.proofs.Common.{rules, ◌≡◌, ◌<ℤ◌, ℕ, ℤ, pos, List, [], ◌∷◌, ◌++◌, Bool, true, false, Some, None, if◌then◌else◌, map, filter, IfOk, IfErr, IsSome, OnOk, OnErr, ◌+◌, ◌-◌, ◌*◌, ◌<◌, ◌≤◌, length, ◌/◌, ◌%◌, nat_eq, nat_lt, slice_index_or, slice_set, bit_and, bit_or, Fits, w8, w32, w64, Bor, MutBor, ◌+ℤ◌, ◌-ℤ◌, ◌*ℤ◌, ◌≤ℤ◌, FitsSigned, to_z, of_z}
-use Rattle.std.specs.BTreeMap.{Updates, get}
-use Rattle.std.specs.Ordering.{nat_cmp}
-use Rattle.std.specs.String.{string_bytes}
-use Rattle.zk_path.specs.Paths.{text_of}
-use Rattle.tree_state.specs.Commands.{IsTextOf}
-use Rattle.tree_state.specs.Nodes.{Path}
-use Rattle.tree_state.specs.State.{Session as PlainSession}
-use Rattle.tree_state.specs.State.{session_of, session_at, change_session, heard_at, without_session, without_connection}
-use Rattle.tree_state.specs.Step.{given_to, is_password_of}
-use Rattle.tree_state.specs.Step.{no_session as nothing_given}
-use Rattle.tree_state.specs.Step.{with_session, with_moved}
-use Rattle.tree_state.specs.Sessions.{Keeps, AreBelow, Owning, session_at_key, with_owned, without_owned, OwnTexts}
+use Rattle.std.proofs.Common.{FitsSigned, w32, w64, rules, refl}
+use Rattle.std.proofs.lemmas.Int.{to_z-of_z}
+use Rattle.tree_state.proofs.SessionExits.{opened}
 use Rattle.tree_state.proofs.session.Sessions.open.Goals as goal
 
--- src/session.rt:97:5
-pub returns-clause-ok : goal.returns-clause-ok
-returns-clause-ok c = ?
+pub returns-in-Ok-clause-ok : goal.returns-in-Ok-clause-ok
+returns-in-Ok-clause-ok c = λ xs owned keeps free below own.
+    let f : FitsSigned w64 c.args.given.now.session = search rules in
+    let g : FitsSigned w32 c.args.given.now.timeout = search rules in
+    opened c.args.self.now _ _ c.args.given.now c.args.now c.args.connection _ _ _ xs owned (to_z-of_z w64 c.args.given.now.session f) (to_z-of_z w64 c.args.given.now.session f)
+        (to_z-of_z w32 c.args.given.now.timeout g) refl (to_z-of_z w64 c.args.now c.ranges.now) refl c.new.ensures.items c.in-Ok.ensures.was_ordered c.in-Ok.ensures.ordered c.in-Ok.ensures.entries c.in_ok-before.ensures.updates keeps free below own
