@@ -35,11 +35,11 @@ from_map : (f : Session → Session) (o : Option Session) (y : Session) → opti
 from_map f None y h = absurd cc
 from_map f (Some x) y h = (x, refl, cc)
 
-changed_yes : (k : ℤ) (f : Session → Session) (x : Session) → is_numbered k x ≡ true → changed_session k f x ≡ f x
+pub changed_yes : (k : ℤ) (f : Session → Session) (x : Session) → is_numbered k x ≡ true → changed_session k f x ≡ f x
 unfolding changed_session
 changed_yes k f x h = ap (λ (b : Bool). cond b (f x) x) h
 
-changed_no : (k : ℤ) (f : Session → Session) (x : Session) → is_numbered k x ≡ false → changed_session k f x ≡ x
+pub changed_no : (k : ℤ) (f : Session → Session) (x : Session) → is_numbered k x ≡ false → changed_session k f x ≡ x
 unfolding changed_session
 changed_no k f x h = ap (λ (b : Bool). cond b (f x) x) h
 

@@ -1,18 +1,17 @@
-use Rattle.std.proofs.Common.{rules, ◌≡◌, ◌<ℤ◌, ℕ, ℤ, pos, List, [], ◌∷◌, ◌++◌, Bool, true, false, Some, None, if◌then◌else◌, map, filter, IfOk, IfErr, OnOk, OnErr, ◌+◌, ◌-◌, ◌*◌, ◌<◌, ◌≤◌, length, ◌/◌, ◌%◌, nat_eq, nat_lt, slice_index_or, slice_set, bit_and, bit_or, Fits, w8, w32, w64, Bor, MutBor}
-use Rattle.std.specs.String.{string_bytes}
-use Rattle.zk_path.specs.Paths.{text_of}
-use Rattle.tree_state.specs.Commands.{IsTextOf}
-use Rattle.tree_state.specs.Nodes.{Path}
-use Rattle.tree_state.specs.State.{Session as PlainSession}
-use Rattle.tree_state.specs.State.{session_of, session_at, change_session, heard_at, without_session, without_connection}
-use Rattle.tree_state.specs.Step.{given_to, with_session, with_moved}
-use Rattle.tree_state.specs.Sessions.{Keeps, AreBelow, Owning, with_owned, without_owned, OwnTexts}
+use Rattle.std.proofs.Common.{FitsSigned, w64, rules, refl}
+use Rattle.std.proofs.lemmas.Int.{to_z-of_z}
+use Rattle.tree_state.proofs.SessionExits.{lost, nothing_to_lose, must_be_live}
 use Rattle.tree_state.proofs.session.Sessions.lose.Goals as goal
+use Rattle.tree_state.proofs.session.Sessions.lose.Goals.{in_default-via-in-None-1, in_default-via-in-Some+in-None-1}
 
--- src/session.rt:136:5
 pub returns-in-Some-get_mut : goal.returns-in-Some-get_mut
-returns-in-Some-get_mut c = ?
+returns-in-Some-get_mut c = λ xs owned keeps.
+    lost c.args.self.now _ c.remove.new.self c.args.connection _ c.in-Some.session c.in-Some-get_mut.live.now _ xs owned c.in-Some.ensures.value ?
+        c.in-Some-get_mut.ensures.ordered c.in-Some-get_mut.ensures.value (c.get_mut.follows.holds _) refl c.in-Some.ensures.updates keeps
 
--- src/session.rt:136:5
 pub returns-in_default : goal.returns-in_default
-returns-in_default c = ?
+returns-in_default c = λ xs owned keeps.
+    elim c.in_default.branch [
+      | in_default-via-in-None-1 w ↦ ?
+      | in_default-via-in-Some+in-None-1 w ↦ ?
+      ]

@@ -1,22 +1,32 @@
-use Rattle.std.proofs.Common.{rules, ◌≡◌, ◌<ℤ◌, ℕ, ℤ, pos, List, [], ◌∷◌, ◌++◌, Bool, true, false, Some, None, if◌then◌else◌, map, filter, IfOk, IfErr, OnOk, OnErr, ◌+◌, ◌-◌, ◌*◌, ◌<◌, ◌≤◌, length, ◌/◌, ◌%◌, nat_eq, nat_lt, slice_index_or, slice_set, bit_and, bit_or, Fits, w8, w32, w64, Bor, MutBor, ◌+ℤ◌, ◌-ℤ◌, ◌*ℤ◌, ◌≤ℤ◌, FitsSigned, to_z, of_z}
-use Rattle.std.specs.String.{string_bytes}
-use Rattle.zk_path.specs.Paths.{text_of}
-use Rattle.tree_state.specs.Commands.{IsTextOf}
-use Rattle.tree_state.specs.Nodes.{Path}
-use Rattle.tree_state.specs.State.{Session as PlainSession}
-use Rattle.tree_state.specs.State.{session_of, session_at, change_session, heard_at, without_session, without_connection}
-use Rattle.tree_state.specs.Step.{given_to, with_session, with_moved}
-use Rattle.tree_state.specs.Sessions.{Keeps, AreBelow, Owning, with_owned, without_owned, OwnTexts}
+use Rattle.std.proofs.Common.{FitsSigned, ℤ, Some, w32, w64, ap, ap₂, rules, refl}
+use Rattle.std.proofs.lemmas.Int.{to_z-of_z}
+use Rattle.tree_state.proofs.SessionExits.{moved, moved_from, moved_from_none, must_be_found, moves}
 use Rattle.tree_state.proofs.session.Sessions.move_to.Goals as goal
 
--- src/session.rt:117:5
 pub returns-in-Some-before-clause-ok : goal.returns-in-Some-before-clause-ok
-returns-in-Some-before-clause-ok c = ?
+returns-in-Some-before-clause-ok c = λ xs owned x keeps free live.
+    let f : FitsSigned w64 c.args.given.now.session = search rules in
+    let g : FitsSigned w32 c.args.given.now.timeout = search rules in
+    let key = to_z-of_z w64 c.args.given.now.session f in
+    let now = to_z-of_z w64 c.args.now c.ranges.now in
+    let time = to_z-of_z w32 c.args.given.now.timeout g in
+    moved c.args.self.now _ _ c.args.given.now c.args.now c.args.connection _ c.in-Some.live.now _ xs owned refl c.in-Some.ensures.ordered c.in-Some.ensures.value
+        (c.get_mut.follows.holds _) (moves c.in-Some.live.now _ _ _ _ _ _ time now c.replace-before.ensures.after)
+        (moved_from c.args.self.now c.insert.new.self c.remove.new.self c.args.given.now.session _ _ c.in-Some-before.before c.args.connection c.in-Some.live.now xs owned refl key c.in-Some.ensures.value
+            c.in-Some-before.ensures.value c.in_ok-insert.ensures.updates c.remove.ensures.updates keeps free) keeps free
 
--- src/session.rt:117:5
 pub returns-in_default-before-clause-ok : goal.returns-in_default-before-clause-ok
-returns-in_default-before-clause-ok c = ?
+returns-in_default-before-clause-ok c = λ xs owned x keeps free live.
+    let f : FitsSigned w64 c.args.given.now.session = search rules in
+    let g : FitsSigned w32 c.args.given.now.timeout = search rules in
+    let key = to_z-of_z w64 c.args.given.now.session f in
+    let now = to_z-of_z w64 c.args.now c.ranges.now in
+    let time = to_z-of_z w32 c.args.given.now.timeout g in
+    moved c.args.self.now _ _ c.args.given.now c.args.now c.args.connection _ c.in-Some.live.now _ xs owned refl c.in-Some.ensures.ordered c.in-Some.ensures.value
+        (c.get_mut.follows.holds _) (moves c.in-Some.live.now _ _ _ _ _ _ time now c.replace-before.ensures.after)
+        (moved_from_none c.args.self.now c.insert.new.self c.args.given.now.session _ c.args.connection c.in-Some.live.now xs owned key c.in_default-before.ensures.value
+            c.in_ok-insert.ensures.updates keeps) keeps free
 
--- src/session.rt:117:5
 pub returns-in_default-clause-ok : goal.returns-in_default-clause-ok
-returns-in_default-clause-ok c = ?
+returns-in_default-clause-ok c = λ xs owned x keeps free live.
+    absurd (must_be_found c.args.self.now _ c.args.given.now.session x xs owned refl c.in_default.ensures.value keeps live)
