@@ -147,9 +147,10 @@ impl Sessions {
         ensures { (xs : List PlainSession) (owned : Owning) → Keeps self.old xs owned
             → Keeps self.new (map (without_connection connection) xs) owned }
     {
-        if let Some(session) = self.connections.remove(&connection)
-            && let Some(live) = self.live.get_mut(&session)
-        {
+        let Some(session) = self.connections.remove(&connection) else {
+            return;
+        };
+        if let Some(live) = self.live.get_mut(&session) {
             live.connection = None;
         }
     }
