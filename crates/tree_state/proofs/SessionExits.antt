@@ -1,5 +1,5 @@
 -- What two maps keep of the sessions, at each end of each function.
-use Rattle.std.proofs.Common.{◌≡◌, ℕ, ℤ, pos, Bool, true, false, cond, List, [], ◌∷◌, ◌++◌, map, filter, not, String, Global, string_bytes, Option, Some, None, All, BTreeMap, int_cmp, int_eq, nat_cmp, refl, sym, ap, ap₂, ◌∙◌, subst, inl, inr, FitsSigned, w32, to_z, of_z}
+use Rattle.std.proofs.Common.{◌≡◌, ℕ, ℤ, pos, Bool, true, false, cond, List, [], ◌∷◌, ◌++◌, map, filter, not, Result, Ok, Err, OnErr, String, Global, string_bytes, Option, Some, None, All, BTreeMap, int_cmp, int_eq, nat_cmp, refl, sym, ap, ap₂, ◌∙◌, subst, inl, inr, FitsSigned, w32, to_z, of_z}
 use Rattle.std.specs.BTreeMap.{IsOrdered, IsUnchanged, Updates, UpdatesBy, WritesThrough, get, insert_entry}
 use Rattle.std.specs.Cmp.{signed_Decides, int_eq_equiv}
 use Rattle.std.specs.Int.{int_max, int_min}
@@ -381,6 +381,10 @@ unfolding session_at_key
 owned_same t live j v w xs owned order h writes value same keeps =
     owned_anew t live j v w xs owned owned order h writes (ap (λ (u : code.Session). session_at_key (j, u)) value) (λ _ _. refl)
         (subst (λ texts. OwnTexts texts (owned j)) (sym same) (owns_found j owned t.live.entries v (sym h) keeps.owns)) keeps
+
+pub after_error : {T E : Type 0} (r : Result T E) (P : Type 0) → P → OnErr r P
+after_error (Ok x) P h = tt
+after_error (Err e) P h = h
 
 -- there is no such session
 pub nothing_owned : (t : Sessions) (live : Live) (j k : ℤ) (xs : List Session) (owned after : Owning) → j ≡ k

@@ -1,34 +1,32 @@
-use Rattle.std.proofs.Common.{rules, ◌≡◌, ◌<ℤ◌, ℕ, ℤ, pos, List, [], ◌∷◌, ◌++◌, Bool, true, false, Some, None, if◌then◌else◌, map, filter, IfOk, IfErr, OnOk, OnErr, ◌+◌, ◌-◌, ◌*◌, ◌<◌, ◌≤◌, length, ◌/◌, ◌%◌, nat_eq, nat_lt, slice_index_or, slice_set, bit_and, bit_or, Fits, w8, w32, w64, Bor, MutBor, ◌+ℤ◌, ◌-ℤ◌, ◌*ℤ◌, ◌≤ℤ◌, FitsSigned, to_z, of_z}
-use Rattle.std.specs.String.{string_bytes}
-use Rattle.zk_path.specs.Paths.{text_of}
-use Rattle.tree_state.specs.Commands.{IsTextOf}
-use Rattle.tree_state.specs.Nodes.{Path}
-use Rattle.tree_state.specs.State.{Session as PlainSession}
-use Rattle.tree_state.specs.State.{session_of, session_at, change_session, heard_at, without_session, without_connection}
-use Rattle.tree_state.specs.Step.{given_to, with_session, with_moved}
-use Rattle.tree_state.specs.Sessions.{Keeps, AreBelow, Owning, with_owned, without_owned, OwnTexts}
+use Rattle.std.proofs.Common.{w64}
+use Rattle.std.proofs.lemmas.Int.{to_z-of_z}
+use Rattle.tree_state.proofs.SessionExits.{ended, ended_on, ended_off, ended_paths, nothing_ends, must_be_found}
 use Rattle.tree_state.proofs.session.Sessions.end.Goals as goal
 
--- src/session.rt:177:13
 pub returns-in_default-clause-kept : goal.returns-in_default-clause-kept
-returns-in_default-clause-kept c = ?
+returns-in_default-clause-kept c = λ xs owned keeps.
+    nothing_ends c.args.self.now c.remove.new.self _ c.args.session xs owned (to_z-of_z w64 c.args.session c.ranges.session) c.in_default.ensures.value c.in_default.ensures.unchanged keeps
 
--- src/session.rt:177:13
 pub returns-in_default-clause-paths : goal.returns-in_default-clause-paths
-returns-in_default-clause-paths c = ?
+returns-in_default-clause-paths c = λ xs owned x keeps live.
+    absurd (must_be_found c.args.self.now _ c.args.session x xs owned (to_z-of_z w64 c.args.session c.ranges.session) c.in_default.ensures.value keeps live)
 
--- src/session.rt:171:5
 pub returns-in-Some-connection-clause-kept : goal.returns-in-Some-connection-clause-kept
-returns-in-Some-connection-clause-kept c = ?
+returns-in-Some-connection-clause-kept c = λ xs owned keeps.
+    ended c.args.self.now c.remove.new.self c.remove-in-Some-connection.new.self _ c.args.session c.in-Some.live xs owned (to_z-of_z w64 c.args.session c.ranges.session)
+        c.in-Some.ensures.value c.in-Some.ensures.entries c.in-Some.ensures.updates.1 c.in-Some.ensures.ordered
+        (ended_on c.args.self.now c.remove-in-Some-connection.new.self c.in-Some-connection.connection c.in-Some.live xs owned c.in-Some-connection.is c.remove-in-Some-connection.ensures.updates keeps) keeps
 
--- src/session.rt:171:5
 pub returns-in-Some-connection-clause-paths : goal.returns-in-Some-connection-clause-paths
-returns-in-Some-connection-clause-paths c = ?
+returns-in-Some-connection-clause-paths c = λ xs owned x keeps live.
+    ended_paths c.args.self.now _ c.args.session c.in-Some.live xs owned (to_z-of_z w64 c.args.session c.ranges.session) c.in-Some.ensures.value keeps
 
--- src/session.rt:171:5
 pub returns-in_default-connection-clause-kept : goal.returns-in_default-connection-clause-kept
-returns-in_default-connection-clause-kept c = ?
+returns-in_default-connection-clause-kept c = λ xs owned keeps.
+    ended c.args.self.now c.remove.new.self c.args.self.now.connections _ c.args.session c.in-Some.live xs owned (to_z-of_z w64 c.args.session c.ranges.session)
+        c.in-Some.ensures.value c.in-Some.ensures.entries c.in-Some.ensures.updates.1 c.in-Some.ensures.ordered
+        (ended_off c.args.self.now c.in-Some.live xs owned c.in_default-connection.is keeps) keeps
 
--- src/session.rt:171:5
 pub returns-in_default-connection-clause-paths : goal.returns-in_default-connection-clause-paths
-returns-in_default-connection-clause-paths c = ?
+returns-in_default-connection-clause-paths c = λ xs owned x keeps live.
+    ended_paths c.args.self.now _ c.args.session c.in-Some.live xs owned (to_z-of_z w64 c.args.session c.ranges.session) c.in-Some.ensures.value keeps
