@@ -372,7 +372,7 @@ owned_more t live j k v w text p xs owned same order h writes value more is keep
             (subst (λ (b : Bool). OwnTexts w.ephemerals.items (cond b (owned j ++ p ∷ []) (owned j))) (sym (int_eq_equiv.refl j))
                 (owns_more v.ephemerals.items w.ephemerals.items (owned j) text p more is (owns_found j owned t.live.entries v (sym h) keeps.owns))) keeps)
 
--- the push failed
+-- as many paths as before are told
 pub owned_same : (t : Sessions) (live : Live) (j : ℤ) (v w : code.Session) (xs : List Session) (owned : Owning)
     → IsOrdered int_cmp t.live → Some v ≡ get int_cmp t.live j → WritesThrough int_cmp (int_cmp j) t.live w live
     → w ≡ record v { ephemerals = w.ephemerals } → w.ephemerals.items ≡ v.ephemerals.items → Keeps t xs owned
@@ -382,9 +382,13 @@ owned_same t live j v w xs owned order h writes value same keeps =
     owned_anew t live j v w xs owned owned order h writes (ap (λ (u : code.Session). session_at_key (j, u)) value) (λ _ _. refl)
         (subst (λ texts. OwnTexts texts (owned j)) (sym same) (owns_found j owned t.live.entries v (sym h) keeps.owns)) keeps
 
-pub after_error : {T E : Type 0} (r : Result T E) (P : Type 0) → P → OnErr r P
-after_error (Ok x) P h = tt
-after_error (Err e) P h = h
+-- a path that finds no memory is not told
+pub not_pushed : {T E : Type 0} (r : Result T E) (t : Sessions) (live : Live) (j : ℤ) (v w : code.Session)
+    → IsOrdered int_cmp t.live → Some v ≡ get int_cmp t.live j → WritesThrough int_cmp (int_cmp j) t.live w live
+    → w ≡ record v { ephemerals = w.ephemerals } → w.ephemerals.items ≡ v.ephemerals.items
+    → OnErr r ((xs : List Session) (owned : Owning) → Keeps t xs owned → Keeps (with_maps live t.connections) xs owned)
+not_pushed (Ok x) t live j v w order h writes value same = tt
+not_pushed (Err e) t live j v w order h writes value same = λ xs owned keeps. owned_same t live j v w xs owned order h writes value same keeps
 
 -- there is no such session
 pub nothing_owned : (t : Sessions) (live : Live) (j k : ℤ) (xs : List Session) (owned after : Owning) → j ≡ k

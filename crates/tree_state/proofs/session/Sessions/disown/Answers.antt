@@ -1,18 +1,8 @@
-use Rattle.std.proofs.Common.{rules, ◌≡◌, ◌<ℤ◌, ℕ, ℤ, pos, List, [], ◌∷◌, ◌++◌, Bool, true, false, Some, None, if◌then◌else◌, map, filter, IfOk, IfErr, OnOk, OnErr, ◌+◌, ◌-◌, ◌*◌, ◌<◌, ◌≤◌, length, ◌/◌, ◌%◌, nat_eq, nat_lt, slice_index_or, slice_set, bit_and, bit_or, Fits, w8, w32, w64, Bor, MutBor, ◌+ℤ◌, ◌-ℤ◌, ◌*ℤ◌, ◌≤ℤ◌, FitsSigned, to_z, of_z}
-use Rattle.std.specs.String.{string_bytes}
-use Rattle.zk_path.specs.Paths.{text_of}
-use Rattle.tree_state.specs.Commands.{IsTextOf}
-use Rattle.tree_state.specs.Nodes.{Path}
-use Rattle.tree_state.specs.State.{Session as PlainSession}
-use Rattle.tree_state.specs.State.{session_of, session_at, change_session, heard_at, without_session, without_connection}
-use Rattle.tree_state.specs.Step.{given_to, with_session, with_moved}
-use Rattle.tree_state.specs.Sessions.{Keeps, AreBelow, Owning, with_owned, without_owned, OwnTexts}
+use Rattle.std.proofs.Common.{w64}
+use Rattle.std.proofs.lemmas.Int.{to_z-of_z}
+use Rattle.tree_state.proofs.SessionExits.{none_less}
 use Rattle.tree_state.proofs.session.Sessions.disown.Goals as goal
 
--- src/session.rt:160:5
-pub returns-in-Some : goal.returns-in-Some
-returns-in-Some c = ?
-
--- src/session.rt:160:5
 pub returns-in_default : goal.returns-in_default
-returns-in_default c = ?
+returns-in_default c = λ xs owned p keeps is.
+    none_less c.args.self.now _ _ c.args.session p xs owned (to_z-of_z w64 c.args.session c.ranges.session) c.in_default.ensures.value c.get_mut.follows.holds-at-none keeps

@@ -1,12 +1,12 @@
 use Rattle.std.proofs.Common.{w64, refl, subst, sym}
 use Rattle.std.proofs.lemmas.Int.{to_z-of_z}
 use Rattle.tree_state.specs.Commands.{IsTextOf}
-use Rattle.tree_state.proofs.SessionExits.{after_error, owned_more, owned_same, none_more}
+use Rattle.tree_state.proofs.SessionExits.{owned_more, not_pushed, none_more}
 use Rattle.tree_state.proofs.session.Sessions.own.Goals as goal
 
 pub returns-in_err-push-clause-err : goal.returns-in_err-push-clause-err
-returns-in_err-push-clause-err c = after_error _ _ (λ xs owned keeps.
-    owned_same c.args.self.now _ _ c.in-Some.live.now _ xs owned c.in-Some.ensures.ordered c.in-Some.ensures.value (c.get_mut.follows.holds _) refl c.in_err-push.ensures.items keeps)
+returns-in_err-push-clause-err c =
+    not_pushed c.from_residual-in_err-push.result c.args.self.now _ _ c.in-Some.live.now _ c.in-Some.ensures.ordered c.in-Some.ensures.value (c.get_mut.follows.holds _) refl c.in_err-push.ensures.items
 
 pub returns-in_ok-push-clause-ok : goal.returns-in_ok-push-clause-ok
 returns-in_ok-push-clause-ok c = λ xs owned p keeps is.
