@@ -214,10 +214,13 @@ opened t live connections given now d j m s xs owned key value timeout password 
   where
     x : Session
     x = record { number = given.session; timeout = given.timeout; password = given.password; heard = now; connection = Some d }
+
     entries : live.entries ≡ t.live.entries ++ (given.session, s) ∷ []
     entries = inserts ∙ ap (λ (z : ℤ). insert_entry int_cmp t.live.entries z s) key ∙ inserted given.session t.live.entries s (subst (AreBelow given.session) (sym keeps.sessions) below)
+
     sessions : sessions_of live.entries ≡ xs ++ x ∷ []
     sessions = ap sessions_of entries ∙ map-append session_at_key t.live.entries ((given.session, s) ∷ []) ∙ ap₂ (λ (ys : List Session) (y : Session). ys ++ y ∷ []) keeps.sessions (opens given now d s timeout password heard on)
+
     ties : AreTied (get nat_cmp connections) (xs ++ x ∷ [])
     ties = opened_ties (get nat_cmp connections) d x xs (kept_distinct t xs owned keeps before) (subst AreDistinct sessions (sorted_distinct live.entries after)) keeps.one
         (above_all given.session xs below) free refl (updates.1 ∙ ap Some value) (λ c h. updates.2 c h ∙ keeps.connections c)
@@ -247,8 +250,10 @@ moved t live connections given now d j v w xs owned key order h writes value has
   where
     distinct : AreDistinct (sessions_of t.live.entries)
     distinct = sorted_distinct t.live.entries order
+
     sessions : sessions_of live.entries ≡ change_session j (moved_to d given.timeout now) xs
     sessions = ap sessions_of writes.0 ∙ written j (moved_to d given.timeout now) t.live.entries v w distinct (sym h) (move_of j given.timeout now d v w value) ∙ ap (change_session j (moved_to d given.timeout now)) keeps.sessions
+
     ties : AreTied (get nat_cmp connections) (change_session j (moved_to d given.timeout now) xs)
     ties = moved_ties (get nat_cmp connections) j d given.timeout now (session_at_key (j, v)) xs (kept_distinct t xs owned keeps order) (subst AreDistinct sessions (sorted_distinct live.entries writes.4)) keeps.one
         (kept_at t xs owned j v keeps (sym h)) free (has.new ∙ ap Some (sym key)) (λ c e. has.none c (on_key j v c e)) (λ c e n. has.others c e (λ o. n (key_on j v c o)))
@@ -276,7 +281,8 @@ moved_from t mid connections k j m b d v xs owned key value h old puts takes kee
           let e = same_connection b d same in
           let n : session_of d xs ≡ Some j = subst (λ (z : ℕ). session_of z xs ≡ Some j) e its in absurd cc
       | inr else ↦ else
-      ]
+    ]
+
     unlike : (c : ℕ) → (v.connection ≡ Some c → ⊥) → is_connection b c ≡ false
     unlike c n = elim (cases_Bool (is_connection b c)) [ inl same ↦ absurd (n (sym old ∙ ap Some (same_connection b c same))) | inr else ↦ else ]
 
@@ -312,24 +318,29 @@ lost t live connections d j m v w xs owned has same order h writes value takes k
   where
     distinct : AreDistinct xs
     distinct = kept_distinct t xs owned keeps order
+
     its : session_of d xs ≡ Some j
     its = sym (keeps.connections d) ∙ sym has ∙ ap Some (sym same)
+
     on : v.connection ≡ Some d
     on = let r = is_on d j xs distinct its in let l = kept_at t xs owned j v keeps (sym h) in let e : session_at_key (j, v) ≡ r.session = (let m = r.live in cc) in
         on_key j v d (ap (λ (y : Session). y.connection) e ∙ r.on)
+
     alike : (k : ℤ) (x : Session) → session_at k xs ≡ Some x → changed_session j (without_connection d) x ≡ without_connection d x
     alike k x l = elim (cases_Bool (is_numbered j x)) [
       | inl numbered ↦ changed_yes j (without_connection d) x numbered
       | inr other ↦ changed_no j (without_connection d) x other ∙ sym (stays d x (elim (cases_Bool (has_connection d x)) [
-          | inl here ↦ let i = keeps.one d x k l (has_its d x here) in let e = its in let n : k ≡ j = cc in absurd (other_session j k xs x l other n)
-          | inr off ↦ off
-          ]))
-      ]
+        | inl here ↦ let i = keeps.one d x k l (has_its d x here) in let e = its in let n : k ≡ j = cc in absurd (other_session j k xs x l other n)
+        | inr off ↦ off
+      ]))
+    ]
+
     sessions : sessions_of live.entries ≡ map (without_connection d) xs
     sessions =
         ap sessions_of writes.0 ∙ written j (without_connection d) t.live.entries v w (sorted_distinct t.live.entries order) (sym h) (lose_of j d v w on value)
         ∙ ap (change_session j (without_connection d)) keeps.sessions
         ∙ change_all j (without_connection d) xs (all_live (λ x. changed_session j (without_connection d) x ≡ without_connection d x) xs distinct alike)
+
     ties : AreTied (get nat_cmp connections) (map (without_connection d) xs)
     ties = lost_ties (get nat_cmp connections) d xs distinct (subst AreDistinct sessions (sorted_distinct live.entries writes.4)) keeps.one
         takes.1 (λ c e. takes.2 c e ∙ keeps.connections c)
@@ -340,7 +351,7 @@ pub nothing_to_lose : (t : Sessions) (live : Live) (connections : Connections) (
     → Keeps (with_maps live connections) (map (without_connection d) xs) owned
 nothing_to_lose t live connections d xs owned stays none same keeps =
     subst (λ (ys : List Session). Keeps (with_maps live connections) ys owned) (sym (nothing_lost d xs (sym (keeps.connections d) ∙ sym none)))
-        (kept_same t live connections xs owned stays (λ c. ap (lookup (is_connection c)) same) keeps)
+    (kept_same t live connections xs owned stays (λ c. ap (lookup (is_connection c)) same) keeps)
 
 -- the session of a connection is live
 pub must_be_live : (t : Sessions) (d : ℕ) (j m : ℤ) (xs : List Session) (owned : Owning) → Some m ≡ get nat_cmp t.connections d → j ≡ m
@@ -358,7 +369,7 @@ pub owned_anew : (t : Sessions) (live : Live) (j : ℤ) (v w : code.Session) (xs
     → Keeps t xs owned → Keeps (with_maps live t.connections) xs after
 owned_anew t live j v w xs owned after order h writes value same own keeps =
     subst (λ (ys : List Session). Keeps (with_maps live t.connections) ys after) (not_changed j xs)
-        (rewritten t live j (λ x. x) v w xs owned after order (sym h) writes value (λ _. refl) (λ _. refl) same own keeps)
+    (rewritten t live j (λ x. x) v w xs owned after order (sym h) writes value (λ _. refl) (λ _. refl) same own keeps)
 
 pub owned_more : (t : Sessions) (live : Live) (j k : ℤ) (v w : code.Session) (text : String Global) (p : Path) (xs : List Session) (owned : Owning) → j ≡ k
     → IsOrdered int_cmp t.live → Some v ≡ get int_cmp t.live j → WritesThrough int_cmp (int_cmp j) t.live w live
@@ -367,10 +378,10 @@ pub owned_more : (t : Sessions) (live : Live) (j k : ℤ) (v w : code.Session) (
 unfolding with_owned session_at_key
 owned_more t live j k v w text p xs owned same order h writes value more is keeps =
     subst (λ (z : ℤ). Keeps (with_maps live t.connections) xs (with_owned z p owned)) same
-        (owned_anew t live j v w xs owned (with_owned j p owned) order h writes (ap (λ (u : code.Session). session_at_key (j, u)) value)
-            (λ i other. ap (λ (b : Bool). cond b (owned i ++ p ∷ []) (owned i)) other)
-            (subst (λ (b : Bool). OwnTexts w.ephemerals.items (cond b (owned j ++ p ∷ []) (owned j))) (sym (int_eq_equiv.refl j))
-                (owns_more v.ephemerals.items w.ephemerals.items (owned j) text p more is (owns_found j owned t.live.entries v (sym h) keeps.owns))) keeps)
+    (owned_anew t live j v w xs owned (with_owned j p owned) order h writes (ap (λ (u : code.Session). session_at_key (j, u)) value)
+    (λ i other. ap (λ (b : Bool). cond b (owned i ++ p ∷ []) (owned i)) other)
+    (subst (λ (b : Bool). OwnTexts w.ephemerals.items (cond b (owned j ++ p ∷ []) (owned j))) (sym (int_eq_equiv.refl j))
+    (owns_more v.ephemerals.items w.ephemerals.items (owned j) text p more is (owns_found j owned t.live.entries v (sym h) keeps.owns))) keeps)
 
 -- as many paths as before are told
 pub owned_same : (t : Sessions) (live : Live) (j : ℤ) (v w : code.Session) (xs : List Session) (owned : Owning)
@@ -380,7 +391,7 @@ pub owned_same : (t : Sessions) (live : Live) (j : ℤ) (v w : code.Session) (xs
 unfolding session_at_key
 owned_same t live j v w xs owned order h writes value same keeps =
     owned_anew t live j v w xs owned owned order h writes (ap (λ (u : code.Session). session_at_key (j, u)) value) (λ _ _. refl)
-        (subst (λ texts. OwnTexts texts (owned j)) (sym same) (owns_found j owned t.live.entries v (sym h) keeps.owns)) keeps
+    (subst (λ texts. OwnTexts texts (owned j)) (sym same) (owns_found j owned t.live.entries v (sym h) keeps.owns)) keeps
 
 -- a path that finds no memory is not told
 pub not_pushed : {T E : Type 0} (r : Result T E) (t : Sessions) (live : Live) (j : ℤ) (v w : code.Session)
@@ -435,12 +446,16 @@ ended t live connections j k v xs owned same h removes none order has keeps =
   where
     gone : lookup (is_key j) (remove_entry (is_key j) t.live.entries) ≡ None
     gone = subst (λ es. lookup (is_key j) es ≡ None) removes none
+
     sessions : sessions_of live.entries ≡ without_session j xs
     sessions = ap sessions_of removes ∙ removed j t.live.entries gone ∙ ap (without_session j) keeps.sessions
+
     after : AreDistinct (sessions_of live.entries)
     after = sorted_distinct live.entries order
+
     before : AreDistinct xs
     before = subst AreDistinct keeps.sessions (distinct_before j t.live.entries gone (subst (λ es. AreDistinct (sessions_of es)) removes after))
+
     ties : AreTied (get nat_cmp connections) (without_session j xs)
     ties = ended_ties (get nat_cmp connections) j (session_at_key (j, v)) xs before (subst AreDistinct sessions after) keeps.one
         (kept_at t xs owned j v keeps (sym h)) (λ c e. has.none c (on_key j v c e)) (λ c n. has.others c (λ o. n (key_on j v c o)))
@@ -463,8 +478,8 @@ pub nothing_ends : (t : Sessions) (live : Live) (j k : ℤ) (xs : List Session) 
     → None ≡ get int_cmp t.live j → IsUnchanged t.live live → Keeps t xs owned → Keeps (with_maps live t.connections) (without_session k xs) owned
 nothing_ends t live j k xs owned same h stays keeps =
     subst (λ (ys : List Session). Keeps (with_maps live t.connections) ys owned)
-        (sym (nothing_gone j xs (not_kept t xs owned j keeps (sym h))) ∙ ap (λ (z : ℤ). without_session z xs) same)
-        (kept_same t live t.connections xs owned stays (λ _. refl) keeps)
+    (sym (nothing_gone j xs (not_kept t xs owned j keeps (sym h))) ∙ ap (λ (z : ℤ). without_session z xs) same)
+    (kept_same t live t.connections xs owned stays (λ _. refl) keeps)
 
 -- the paths that a session had
 pub ended_paths : (t : Sessions) (j k : ℤ) (v : code.Session) (xs : List Session) (owned : Owning) → j ≡ k

@@ -9,7 +9,7 @@ ghost use Rattle.tree_state.specs.Commands.{IsTextOf};
 ghost use Rattle.tree_state.specs.Nodes.{Path};
 ghost use Rattle.tree_state.specs.State.{Session as PlainSession, session_of, session_at, change_session, heard_at, without_session, without_connection};
 ghost use Rattle.tree_state.specs.Step.{given_to, is_password_of, no_session as nothing_given, with_session, with_moved};
-ghost use Rattle.tree_state.specs.Sessions.{Keeps, AreBelow, Owning, session_at_key, with_owned, without_owned, OwnTexts};
+ghost use Rattle.tree_state.specs.Sessions.{Keeps, AreBelow, Owning, session_at_key, with_owned, without_owned, is_other_text, OwnTexts};
 
 use jute_core::Memory;
 use std::alloc::Global;
@@ -174,7 +174,7 @@ impl Sessions {
             → Keeps self.new xs (without_owned session p owned) }
     {
         if let Some(live) = self.live.get_mut(&session) {
-            live.ephemerals.retain(|text| text.as_str() != path);
+            remove_text(&mut live.ephemerals, path);
         }
     }
 
@@ -219,6 +219,13 @@ fn put_back(connections: &mut BTreeMap<u32, i64>, connection: u32, before: Optio
     if let Some(session) = connections.get_mut(&connection) {
         *session = before;
     }
+}
+
+// Takes this text out of a list. Takes no memory.
+fn remove_text(texts: &mut Vec<String>, text: &str)
+    ensures { texts.new.items ≡ filter (is_other_text text.now) texts.old.items }
+{
+    texts.retain(|kept| kept.as_str() != text);
 }
 
 // What a connect is given that gets no session.

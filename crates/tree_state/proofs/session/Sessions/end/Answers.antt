@@ -14,8 +14,8 @@ returns-in_default-clause-paths c = λ xs owned x keeps live.
 pub returns-in-Some-connection-clause-kept : goal.returns-in-Some-connection-clause-kept
 returns-in-Some-connection-clause-kept c = λ xs owned keeps.
     ended c.args.self.now c.remove.new.self c.remove-in-Some-connection.new.self _ c.args.session c.in-Some.live xs owned (to_z-of_z w64 c.args.session c.ranges.session)
-        c.in-Some.ensures.value c.in-Some.ensures.entries c.in-Some.ensures.updates.1 c.in-Some.ensures.ordered
-        (ended_on c.args.self.now c.remove-in-Some-connection.new.self c.in-Some-connection.connection c.in-Some.live xs owned c.in-Some-connection.is c.remove-in-Some-connection.ensures.updates keeps) keeps
+    c.in-Some.ensures.value c.in-Some.ensures.entries c.in-Some.ensures.updates.1 c.in-Some.ensures.ordered
+    (ended_on c.args.self.now c.remove-in-Some-connection.new.self c.in-Some-connection.connection c.in-Some.live xs owned c.in-Some-connection.is c.remove-in-Some-connection.ensures.updates keeps) keeps
 
 pub returns-in-Some-connection-clause-paths : goal.returns-in-Some-connection-clause-paths
 returns-in-Some-connection-clause-paths c = λ xs owned x keeps live.
@@ -24,8 +24,8 @@ returns-in-Some-connection-clause-paths c = λ xs owned x keeps live.
 pub returns-in_default-connection-clause-kept : goal.returns-in_default-connection-clause-kept
 returns-in_default-connection-clause-kept c = λ xs owned keeps.
     ended c.args.self.now c.remove.new.self c.args.self.now.connections _ c.args.session c.in-Some.live xs owned (to_z-of_z w64 c.args.session c.ranges.session)
-        c.in-Some.ensures.value c.in-Some.ensures.entries c.in-Some.ensures.updates.1 c.in-Some.ensures.ordered
-        (ended_off c.args.self.now c.in-Some.live xs owned c.in_default-connection.is keeps) keeps
+    c.in-Some.ensures.value c.in-Some.ensures.entries c.in-Some.ensures.updates.1 c.in-Some.ensures.ordered
+    (ended_off c.args.self.now c.in-Some.live xs owned c.in_default-connection.is keeps) keeps
 
 pub returns-in_default-connection-clause-paths : goal.returns-in_default-connection-clause-paths
 returns-in_default-connection-clause-paths c = λ xs owned x keeps live.

@@ -7,7 +7,7 @@ pub returns-in-Some-get_mut : goal.returns-in-Some-get_mut
 returns-in-Some-get_mut c = λ xs owned keeps.
     let f : FitsSigned w64 c.in-Some.session = search rules in
     lost c.args.self.now _ c.remove.new.self c.args.connection _ c.in-Some.session c.in-Some-get_mut.live.now _ xs owned c.in-Some.ensures.value (to_z-of_z w64 c.in-Some.session f)
-        c.in-Some-get_mut.ensures.ordered c.in-Some-get_mut.ensures.value (c.get_mut.follows.holds _) refl c.in-Some.ensures.updates keeps
+    c.in-Some-get_mut.ensures.ordered c.in-Some-get_mut.ensures.value (c.get_mut.follows.holds _) refl c.in-Some.ensures.updates keeps
 
 pub returns-in_default : goal.returns-in_default
 returns-in_default c = λ xs owned keeps.
@@ -17,4 +17,4 @@ pub returns-in_default-get_mut : goal.returns-in_default-get_mut
 returns-in_default-get_mut c = λ xs owned keeps.
     let f : FitsSigned w64 c.in-Some.session = search rules in
     absurd (must_be_live c.args.self.now c.args.connection _ c.in-Some.session xs owned c.in-Some.ensures.value (to_z-of_z w64 c.in-Some.session f)
-        c.in_default-get_mut.ensures.ordered c.in_default-get_mut.ensures.value keeps)
+    c.in_default-get_mut.ensures.ordered c.in_default-get_mut.ensures.value keeps)

@@ -11,9 +11,9 @@ returns-in-Some-before-clause-ok c = λ xs owned x keeps free live.
     let now = to_z-of_z w64 c.args.now c.ranges.now in
     let time = to_z-of_z w32 c.args.given.now.timeout g in
     moved c.args.self.now _ _ c.args.given.now c.args.now c.args.connection _ c.in-Some.live.now _ xs owned refl c.in-Some.ensures.ordered c.in-Some.ensures.value
-        (c.get_mut.follows.holds _) (moves c.in-Some.live.now _ _ _ _ _ _ time now c.replace-before.ensures.after)
-        (moved_from c.args.self.now c.insert.new.self c.remove.new.self c.args.given.now.session _ _ c.in-Some-before.before c.args.connection c.in-Some.live.now xs owned refl key c.in-Some.ensures.value
-            c.in-Some-before.ensures.value c.in_ok-insert.ensures.updates c.remove.ensures.updates keeps free) keeps free
+    (c.get_mut.follows.holds _) (moves c.in-Some.live.now _ _ _ _ _ _ time now c.replace-before.ensures.after)
+    (moved_from c.args.self.now c.insert.new.self c.remove.new.self c.args.given.now.session _ _ c.in-Some-before.before c.args.connection c.in-Some.live.now xs owned refl key c.in-Some.ensures.value
+    c.in-Some-before.ensures.value c.in_ok-insert.ensures.updates c.remove.ensures.updates keeps free) keeps free
 
 pub returns-in_default-before-clause-ok : goal.returns-in_default-before-clause-ok
 returns-in_default-before-clause-ok c = λ xs owned x keeps free live.
@@ -23,9 +23,9 @@ returns-in_default-before-clause-ok c = λ xs owned x keeps free live.
     let now = to_z-of_z w64 c.args.now c.ranges.now in
     let time = to_z-of_z w32 c.args.given.now.timeout g in
     moved c.args.self.now _ _ c.args.given.now c.args.now c.args.connection _ c.in-Some.live.now _ xs owned refl c.in-Some.ensures.ordered c.in-Some.ensures.value
-        (c.get_mut.follows.holds _) (moves c.in-Some.live.now _ _ _ _ _ _ time now c.replace-before.ensures.after)
-        (moved_from_none c.args.self.now c.insert.new.self c.args.given.now.session _ c.args.connection c.in-Some.live.now xs owned key c.in_default-before.ensures.value
-            c.in_ok-insert.ensures.updates keeps) keeps free
+    (c.get_mut.follows.holds _) (moves c.in-Some.live.now _ _ _ _ _ _ time now c.replace-before.ensures.after)
+    (moved_from_none c.args.self.now c.insert.new.self c.args.given.now.session _ c.args.connection c.in-Some.live.now xs owned key c.in_default-before.ensures.value
+    c.in_ok-insert.ensures.updates keeps) keeps free
 
 pub returns-in_default-clause-ok : goal.returns-in_default-clause-ok
 returns-in_default-clause-ok c = λ xs owned x keeps free live.

@@ -11,7 +11,7 @@ returns-in_err-push-clause-err c =
 pub returns-in_ok-push-clause-ok : goal.returns-in_ok-push-clause-ok
 returns-in_ok-push-clause-ok c = λ xs owned p keeps is.
     owned_more c.args.self.now _ _ c.args.session c.in-Some.live.now _ c.in_ok-path.path p xs owned (to_z-of_z w64 c.args.session c.ranges.session)
-        c.in-Some.ensures.ordered c.in-Some.ensures.value (c.get_mut.follows.holds _) refl c.in_ok-push.ensures.items (subst (λ b. IsTextOf b p) (sym c.in_ok-path.ensures.ok) is) keeps
+    c.in-Some.ensures.ordered c.in-Some.ensures.value (c.get_mut.follows.holds _) refl c.in_ok-push.ensures.items (subst (λ b. IsTextOf b p) (sym c.in_ok-path.ensures.ok) is) keeps
 
 pub returns-in_default-clause-ok : goal.returns-in_default-clause-ok
 returns-in_default-clause-ok c = λ xs owned p keeps is.
