@@ -1,11 +1,11 @@
 -- What two maps keep of the sessions, at each end of each function.
 use Rattle.std.proofs.Common.{◌≡◌, ℕ, ℤ, pos, Bool, true, false, cond, List, [], ◌∷◌, ◌++◌, map, filter, not, Result, Ok, Err, OnErr, String, Global, string_bytes, Option, Some, None, All, BTreeMap, int_cmp, int_eq, nat_cmp, refl, sym, ap, ap₂, ◌∙◌, subst, inl, inr, FitsSigned, w32, to_z, of_z}
-use Rattle.std.specs.BTreeMap.{IsOrdered, IsUnchanged, Updates, UpdatesBy, WritesThrough, get, insert_entry}
+use Rattle.std.specs.BTreeMap.{IsOrdered, IsUnchanged, Updates, WritesThrough, get, insert_entry}
 use Rattle.std.specs.Cmp.{signed_Decides, int_eq_equiv}
 use Rattle.std.specs.Int.{int_max, int_min}
 use Rattle.std.specs.Option.{option_map}
-use Rattle.std.specs.Map.{lookup, set_value, remove_entry}
-use Rattle.std.proofs.lemmas.Bool.{cases_Bool, both_ways}
+use Rattle.std.specs.Map.{lookup, remove_entry}
+use Rattle.std.proofs.lemmas.Bool.{cases_Bool}
 use Rattle.std.proofs.lemmas.Int.{to_z-of_z}
 use Rattle.std.proofs.lemmas.List.Elements.{All-nil, All-push}
 use Rattle.std.proofs.lemmas.List.{map-append}
@@ -17,8 +17,8 @@ use Rattle.tree_state.specs.Commands.{IsTextOf}
 use Rattle.tree_state.specs.Nodes.{Path, same_path}
 use Rattle.tree_state.specs.State.{Session, has_connection, session_of, session_at, is_numbered, changed_session, change_session, heard_at, moved_to, without_session, without_connection}
 use Rattle.tree_state.specs.Step.{clamped, given_to, given_live, is_password_of, no_session, with_session, with_moved}
-use Rattle.tree_state.specs.Sessions.{Keeps, with_owned, without_owned, Owning, OwnsPaths, OwnTexts, AreBelow, IsOnOne, session_at_key}
-use Rattle.tree_state.proofs.SessionLists.{AreDistinct, AreTied, has_its, number_of, is_number, same_number, is_on, all_live, same_all, nothing_changed, nothing_lost, nothing_gone, above_all, own_number}
+use Rattle.tree_state.specs.Sessions.{Keeps, with_owned, without_owned, Owning, OwnsPaths, OwnTexts, AreBelow, session_at_key}
+use Rattle.tree_state.proofs.SessionLists.{AreDistinct, AreTied, has_its, same_number, is_on, all_live, same_all, nothing_changed, nothing_lost, nothing_gone, above_all}
 use Rattle.tree_state.proofs.SessionMaps.{is_key, sessions_of, at_key, found, not_found, sorted_distinct, written, removed, distinct_before, inserted, owns_elsewhere, owns_found, owns_removed, owns_written, owns_nothing, owns_more}
 use Rattle.tree_state.proofs.SessionTies.{is_connection, same_connection, other_session, same_ties, opened_ties, moved_ties, lost_ties, ended_ties, changed_yes, changed_no, stays, loses}
 

@@ -1,5 +1,5 @@
 -- The entries of a map of sessions, and the list of sessions that they are.
-use Rattle.std.proofs.Common.{◌≡◌, ℕ, ℤ, Bool, true, false, cond, not, List, [], ◌∷◌, ◌++◌, map, Option, Some, None, Ordering, Less, Equal, Greater, int_cmp, int_eq, is_eq, All, ◌<ℤ◌, refl, sym, ap, ap₂, ◌∙◌, subst, subst₂}
+use Rattle.std.proofs.Common.{◌≡◌, ℕ, ℤ, Bool, true, false, cond, not, List, [], ◌∷◌, ◌++◌, map, Some, None, Ordering, Less, Greater, int_cmp, int_eq, is_eq, All, ◌<ℤ◌, refl, sym, ap, ap₂, ◌∙◌, subst, subst₂}
 use Rattle.std.specs.BTreeMap.{insert_entry, is_at}
 use Rattle.std.specs.Cmp.{int_eq_equiv, int_cmp_is}
 use Rattle.std.specs.List.{AllByRecursion}
@@ -19,7 +19,7 @@ use Rattle.tree_state.specs.Nodes.{Path}
 use Rattle.tree_state.specs.Commands.{IsTextOf}
 use Rattle.tree_state.specs.State.{Session, is_numbered, session_at, changed_session, change_session, is_other_session, without_session}
 use Rattle.tree_state.specs.Sessions.{Owning, OwnsPaths, OwnTexts, AreBelow, session_at_key}
-use Rattle.tree_state.proofs.SessionLists.{AreDistinct, same_number, at_first, at_others, others_first, others_next, nothing_changed, nothing_gone, at_without}
+use Rattle.tree_state.proofs.SessionLists.{AreDistinct, same_number, at_others, others_first, others_next, nothing_changed, nothing_gone, at_without}
 
 abbrev pub Entries : Type 0
 Entries = List (ℤ × code.Session)

@@ -1,5 +1,5 @@
 -- Which sessions two ordered maps keep.
-use Rattle.std.specs.Prelude.{◌≡◌, ◌<ℤ◌, ℕ, ℤ, List, [], ◌∷◌, ◌++◌, map, filter, not, Bool, true, false, Option, Some, None, All, String, if◌then◌else◌}
+use Rattle.std.specs.Prelude.{◌≡◌, ◌<ℤ◌, ℕ, ℤ, List, [], ◌∷◌, ◌++◌, map, filter, not, Bool, Some, All, String, if◌then◌else◌}
 use Rattle.std.specs.BTreeMap.{get}
 use Rattle.std.specs.Global.{Global}
 use Rattle.std.specs.Ordering.{int_eq, nat_cmp}
@@ -9,7 +9,7 @@ use Rattle.zk_path.specs.Paths.{text_of}
 use Rattle.tree_state.specs.declared.session.Session as code
 use Rattle.tree_state.specs.declared.session.Sessions.{Sessions}
 use Rattle.tree_state.specs.Nodes.{Path, same_path}
-use Rattle.tree_state.specs.State.{Session, session_of, session_at, has_connection}
+use Rattle.tree_state.specs.State.{Session, session_of, session_at}
 
 -- the paths of a session's ephemerals, in the order in which they were made
 abbrev pub Owning : Type 0
