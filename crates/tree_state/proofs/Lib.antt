@@ -1,4 +1,8 @@
 mod SessionLists
 mod SessionMaps
 mod SessionTies
-mod SessionExits
+mod SessionsEnded
+mod SessionsGiven
+mod SessionsKept
+mod SessionsMoved
+mod SessionsOwning

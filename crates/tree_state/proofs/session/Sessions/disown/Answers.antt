@@ -1,6 +1,6 @@
 use Rattle.std.proofs.Common.{w64}
 use Rattle.std.proofs.lemmas.Int.{to_z-of_z}
-use Rattle.tree_state.proofs.SessionExits.{none_less}
+use Rattle.tree_state.proofs.SessionsOwning.{none_less}
 use Rattle.tree_state.proofs.session.Sessions.disown.Goals as goal
 
 pub returns-in_default : goal.returns-in_default

@@ -1,6 +1,7 @@
 use Rattle.std.proofs.Common.{w64}
 use Rattle.std.proofs.lemmas.Int.{to_z-of_z}
-use Rattle.tree_state.proofs.SessionExits.{ended, ended_on, ended_off, ended_paths, nothing_ends, must_be_found}
+use Rattle.tree_state.proofs.SessionsEnded.{ended, ended_on, ended_off, ended_paths, nothing_ends}
+use Rattle.tree_state.proofs.SessionsKept.{must_be_found}
 use Rattle.tree_state.proofs.session.Sessions.end.Goals as goal
 
 pub returns-in_default-clause-kept : goal.returns-in_default-clause-kept

@@ -1,7 +1,7 @@
-use Rattle.std.proofs.Common.{◌≡◌, ◌∙◌, ℤ, FitsSigned, of_z, pos, w32, w64, ap, rules, sym}
+use Rattle.std.proofs.Common.{◌∙◌, ℤ, FitsSigned, of_z, w32, w64, ap, rules, sym}
 use Rattle.std.specs.Int.{cast_signed}
 use Rattle.std.proofs.lemmas.Int.{to_z-of_z}
-use Rattle.tree_state.proofs.SessionExits.{clamped_so, given_of, given_fresh, given_known, given_wrong, given_unknown}
+use Rattle.tree_state.proofs.SessionsGiven.{clamped_so, given_of, given_fresh, given_known, given_wrong, given_unknown}
 use Rattle.tree_state.proofs.session.Sessions.given.Goals as goal
 use Rattle.tree_state.proofs.session.Sessions.given.Goals.{in_default-via-in-Some+else-has_password, in_default-via-in_default}
 

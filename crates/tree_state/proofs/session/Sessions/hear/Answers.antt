@@ -1,6 +1,6 @@
 use Rattle.std.proofs.Common.{ℤ, w64, ap}
 use Rattle.std.proofs.lemmas.Int.{to_z-of_z}
-use Rattle.tree_state.proofs.SessionExits.{heard, not_heard}
+use Rattle.tree_state.proofs.SessionsKept.{heard, not_heard}
 use Rattle.tree_state.proofs.session.Sessions.hear.Goals as goal
 
 pub returns-in-Some : goal.returns-in-Some

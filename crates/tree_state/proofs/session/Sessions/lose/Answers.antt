@@ -1,6 +1,6 @@
 use Rattle.std.proofs.Common.{FitsSigned, w64, rules, refl}
 use Rattle.std.proofs.lemmas.Int.{to_z-of_z}
-use Rattle.tree_state.proofs.SessionExits.{lost, nothing_to_lose, must_be_live}
+use Rattle.tree_state.proofs.SessionsEnded.{lost, nothing_to_lose, must_be_live}
 use Rattle.tree_state.proofs.session.Sessions.lose.Goals as goal
 
 pub returns-in-Some-get_mut : goal.returns-in-Some-get_mut

@@ -1,6 +1,7 @@
-use Rattle.std.proofs.Common.{FitsSigned, ℤ, Some, w32, w64, ap, ap₂, rules, refl}
+use Rattle.std.proofs.Common.{FitsSigned, w32, w64, rules, refl}
 use Rattle.std.proofs.lemmas.Int.{to_z-of_z}
-use Rattle.tree_state.proofs.SessionExits.{moved, moved_from, moved_from_none, must_be_found, moves}
+use Rattle.tree_state.proofs.SessionsKept.{must_be_found}
+use Rattle.tree_state.proofs.SessionsMoved.{moved, moved_from, moved_from_none, moves}
 use Rattle.tree_state.proofs.session.Sessions.move_to.Goals as goal
 
 pub returns-in-Some-before-clause-ok : goal.returns-in-Some-before-clause-ok

@@ -1,4 +1,4 @@
-use Rattle.tree_state.proofs.SessionExits.{none_kept}
+use Rattle.tree_state.proofs.SessionsKept.{none_kept}
 use Rattle.tree_state.proofs.session.Sessions.new.Goals as goal
 
 pub returns : goal.returns

@@ -1,6 +1,6 @@
 use Rattle.std.proofs.Common.{FitsSigned, w32, w64, rules, refl}
 use Rattle.std.proofs.lemmas.Int.{to_z-of_z}
-use Rattle.tree_state.proofs.SessionExits.{opened}
+use Rattle.tree_state.proofs.SessionsMoved.{opened}
 use Rattle.tree_state.proofs.session.Sessions.open.Goals as goal
 
 pub returns-in-Ok-clause-ok : goal.returns-in-Ok-clause-ok

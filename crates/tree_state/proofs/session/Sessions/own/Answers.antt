@@ -1,7 +1,7 @@
 use Rattle.std.proofs.Common.{w64, refl, subst, sym}
 use Rattle.std.proofs.lemmas.Int.{to_z-of_z}
 use Rattle.tree_state.specs.Commands.{IsTextOf}
-use Rattle.tree_state.proofs.SessionExits.{owned_more, not_pushed, none_more}
+use Rattle.tree_state.proofs.SessionsOwning.{owned_more, not_pushed, none_more}
 use Rattle.tree_state.proofs.session.Sessions.own.Goals as goal
 
 pub returns-in_err-push-clause-err : goal.returns-in_err-push-clause-err
