@@ -18,3 +18,11 @@ pub mod Copied
 pub mod Rows
 pub mod Reading
 pub mod Alone
+mod SessionLists
+mod SessionMaps
+mod SessionTies
+mod SessionsEnded
+mod SessionsGiven
+mod SessionsKept
+mod SessionsMoved
+mod SessionsOwning
