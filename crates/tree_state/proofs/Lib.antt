@@ -26,3 +26,4 @@ mod SessionsGiven
 mod SessionsKept
 mod SessionsMoved
 mod SessionsOwning
+pub mod Serving

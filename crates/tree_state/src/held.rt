@@ -1,6 +1,6 @@
 //! What a tree holds, and the rows of the machine over it.
 
-ghost use Rattle.std.specs.Prelude.{◌≡◌, ◌≤◌, ◌<◌, ℕ, ℤ, List, [], ◌∷◌, Bool, false, Ok, Some, None, IfOk};
+ghost use Rattle.std.specs.Prelude.{◌≡◌, ◌≤◌, ◌<◌, ℕ, ℤ, List, [], ◌∷◌, Bool, false, Ok, Err, Some, None, IfOk};
 ghost use Rattle.tree_state.specs.declared.node.Moment.{Moment as At};
 ghost use Rattle.tree_state.specs.Commands.{Command, Asks, IsTextOf, stat_at, get_content, get_acl, get_children, set_acl, sync, create, delete, set_content};
 ghost use Rattle.tree_state.specs.Nodes.{Path, Node, find, has_children, ephemerals, stat_of, greatest_int};
@@ -92,7 +92,13 @@ impl Held {
                 self.end_session(alloc, at);
                 Ok(Outcome::Empty)
             }
-            _ => Ok(Outcome::Error { code: UNIMPLEMENTED }),
+            Request::Create(_)
+            | Request::Multi(_)
+            | Request::SetWatches(_)
+            | Request::Auth(_)
+            | Request::Unknown { .. } => Ok(Outcome::Error {
+                code: UNIMPLEMENTED,
+            }),
         }
     }
 
@@ -303,8 +309,17 @@ pub(crate) fn alone(change: Result<OpResult, NotDone>) -> Result<Outcome, Memory
 {
     match change {
         Ok(result) => Ok(outcome(result)),
-        Err(NotDone::Refused { code }) => Ok(Outcome::Error { code }),
-        Err(NotDone::Memory) => Err(Memory),
+        Err(stop) => stopped(stop),
+    }
+}
+
+// The outcome of a change that was not done.
+fn stopped(stop: NotDone) -> Result<Outcome, Memory>
+    ensures { (s : State) (t : Trial ℤ Effect) (held : PlainHeld) → Performs s t held (Err stop) → Answers s (answer_single s t) held result }
+{
+    match stop {
+        NotDone::Refused { code } => Ok(Outcome::Error { code }),
+        NotDone::Memory => Err(Memory),
     }
 }
 
