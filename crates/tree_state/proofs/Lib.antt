@@ -1,3 +1,4 @@
+mod SamePaths
 mod SessionLists
 mod SessionMaps
 mod SessionTies

@@ -1,8 +1,8 @@
 -- The entries of a map of sessions, and the list of sessions that they are.
-use Rattle.std.proofs.Common.{◌≡◌, ℕ, ℤ, Bool, true, false, cond, not, List, [], ◌∷◌, ◌++◌, map, Some, None, Ordering, Less, Greater, int_cmp, int_eq, is_eq, All, ◌<ℤ◌, refl, sym, ap, ap₂, ◌∙◌, subst, subst₂}
+use Rattle.std.proofs.Common.{◌≡◌, ℕ, ℤ, Bool, true, false, cond, not, filter, bytes_eq, List, [], ◌∷◌, ◌++◌, map, Some, None, Ordering, Less, Greater, int_cmp, int_eq, is_eq, All, ◌<ℤ◌, refl, sym, ap, ap₂, ◌∙◌, subst, subst₂}
 use Rattle.std.specs.BTreeMap.{insert_entry, is_at}
 use Rattle.std.specs.Cmp.{int_eq_equiv, int_cmp_is}
-use Rattle.std.specs.List.{AllByRecursion}
+use Rattle.std.specs.List.{AllByRecursion, AllZip}
 use Rattle.std.specs.List.Sorted.{IsStrictlySortedBy}
 use Rattle.std.specs.Map.{keys_of, lookup, set_value, remove_entry}
 use Rattle.std.specs.Option.{option_map}
@@ -10,15 +10,18 @@ use Rattle.std.specs.String.{string_bytes}
 use Rattle.std.specs.Prelude.{String}
 use Rattle.std.specs.Global.{Global}
 use Rattle.zk_path.specs.Paths.{text_of}
-use Rattle.std.proofs.lemmas.List.{map-append}
+use Rattle.std.proofs.lemmas.Slice.Eq.{bytes_eq-Decides}
+use Rattle.std.proofs.lemmas.Bool.{both_ways}
+use Rattle.zk_path.proofs.Judged.{one_text}
 use Rattle.std.specs.Ordering.{match_ordering}
 use Rattle.std.proofs.lemmas.List.Elements.{All-cons, All-head, All-nil, All-tail}
 use Rattle.std.proofs.lemmas.Map.Keys.{sorted_head, sorted_tail}
 use Rattle.tree_state.specs.declared.session.Session as code
-use Rattle.tree_state.specs.Nodes.{Path}
+use Rattle.tree_state.specs.Nodes.{Path, same_path}
 use Rattle.tree_state.specs.Commands.{IsTextOf}
 use Rattle.tree_state.specs.State.{Session, is_numbered, session_at, changed_session, change_session, is_other_session, without_session}
-use Rattle.tree_state.specs.Sessions.{Owning, OwnsPaths, OwnTexts, AreBelow, session_at_key}
+use Rattle.tree_state.specs.Sessions.{Owning, OwnsPaths, OwnTexts, AreBelow, is_other_text, session_at_key}
+use Rattle.tree_state.proofs.SamePaths.{same_path-refl, same_path-true}
 use Rattle.tree_state.proofs.SessionLists.{AreDistinct, same_number, at_others, others_first, others_next, nothing_changed, nothing_gone, at_without}
 
 abbrev pub Entries : Type 0
@@ -180,11 +183,52 @@ owns_written k owned after (e ∷ es) w d same own h =
 -- no texts are those of no paths
 pub owns_nothing : (texts : List (String Global)) (ps : List Path) → texts ≡ [] → ps ≡ [] → OwnTexts texts ps
 unfolding OwnTexts
-owns_nothing texts ps h k = ap (map string_bytes) h ∙ sym (ap (map text_of) k)
+owns_nothing texts ps h k = subst₂ (λ (us : List (String Global)) (qs : List Path). AllZip IsTextOf (map string_bytes us) qs) (sym h) (sym k) tt
 
 -- one more path and its text
 pub owns_more : (texts after : List (String Global)) (ps : List Path) (text : String Global) (p : Path) → after ≡ texts ++ text ∷ []
     → IsTextOf (string_bytes text) p → OwnTexts texts ps → OwnTexts after (ps ++ p ∷ [])
 unfolding OwnTexts
-owns_more texts after ps text p more is h =
-    ap (map string_bytes) more ∙ map-append string_bytes texts (text ∷ []) ∙ ap₂ (λ (xs ys : List (List ℕ)). xs ++ ys) h (ap (λ (b : List ℕ). b ∷ []) is.spelled) ∙ sym (map-append text_of ps (p ∷ []))
+owns_more texts after ps text p more is h = subst (λ (us : List (String Global)). AllZip IsTextOf (map string_bytes us) (ps ++ p ∷ [])) (sym more) (go texts ps h)
+  where
+    go : (us : List (String Global)) (qs : List Path) → AllZip IsTextOf (map string_bytes us) qs → AllZip IsTextOf (map string_bytes (us ++ text ∷ [])) (qs ++ p ∷ [])
+    go [] [] h = (is, tt)
+    go [] (q ∷ qs) h = absurd h
+    go (u ∷ us) [] h = absurd h
+    go (u ∷ us) (q ∷ qs) h = (h.0, go us qs h.1)
+
+-- the texts of two legal paths are the same exactly where the paths are
+pub same_text : (text other : List ℕ) (p q : Path) → IsTextOf text p → IsTextOf other q → bytes_eq other text ≡ same_path q p
+same_text text other p q h k = go (bytes_eq other text) refl (same_path q p) refl
+  where
+    go : (a : Bool) → bytes_eq other text ≡ a → (b : Bool) → same_path q p ≡ b → a ≡ b
+    go true e true f = refl
+    go true e false f =
+        let s = (bytes_eq-Decides other text).0 e in
+        let n = one_text q p k.legal h.legal (sym k.spelled ∙ s ∙ h.spelled) in
+        absurd (both_ways _ f (subst (λ (r : Path). same_path q r ≡ true) n (same_path-refl q)))
+    go false e true f =
+        let n = same_path-true q p f in
+        absurd (both_ways _ e ((bytes_eq-Decides other text).1 (k.spelled ∙ ap text_of n ∙ sym h.spelled)))
+    go false e false f = refl
+
+-- one path and its text go
+pub owns_less : (texts after : List (String Global)) (ps : List Path) (text : List ℕ) (p : Path) → after ≡ filter (is_other_text text) texts
+    → IsTextOf text p → OwnTexts texts ps → OwnTexts after (filter (λ q. not (same_path q p)) ps)
+unfolding OwnTexts
+owns_less texts after ps text p less is h = subst (λ (us : List (String Global)). AllZip IsTextOf (map string_bytes us) (filter (λ q. not (same_path q p)) ps)) (sym less) (go texts ps h)
+  where
+    either : (b : Bool) (u : String Global) (us : List (String Global)) (q : Path) (qs : List Path) → IsTextOf (string_bytes u) q → AllZip IsTextOf (map string_bytes us) qs
+        → AllZip IsTextOf (map string_bytes (cond (not b) (u ∷ us) us)) (cond (not b) (q ∷ qs) qs)
+    either true u us q qs k h = h
+    either false u us q qs k h = (k, h)
+
+    go : (us : List (String Global)) (qs : List Path) → AllZip IsTextOf (map string_bytes us) qs
+        → AllZip IsTextOf (map string_bytes (filter (is_other_text text) us)) (filter (λ q. not (same_path q p)) qs)
+    go [] [] h = tt
+    go [] (q ∷ qs) h = absurd h
+    go (u ∷ us) [] h = absurd h
+    go (u ∷ us) (q ∷ qs) h =
+        subst (λ (b : Bool). AllZip IsTextOf (map string_bytes (filter (is_other_text text) (u ∷ us))) (cond (not b) (q ∷ filter (λ r. not (same_path r p)) qs) (filter (λ r. not (same_path r p)) qs)))
+        (same_text text (string_bytes u) p q is h.0)
+        (either (bytes_eq (string_bytes u) text) u (filter (is_other_text text) us) q (filter (λ r. not (same_path r p)) qs) h.0 (go us qs h.1))

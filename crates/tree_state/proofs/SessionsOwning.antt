@@ -1,5 +1,5 @@
 -- What two maps keep where a session owns one path more, or one less.
-use Rattle.std.proofs.Common.{◌≡◌, ℤ, Bool, true, false, cond, List, [], ◌∷◌, ◌++◌, filter, not, Result, Ok, Err, OnErr, String, Global, string_bytes, Some, None, int_cmp, int_eq, refl, sym, ap, ap₂, subst}
+use Rattle.std.proofs.Common.{◌≡◌, ℕ, ℤ, Bool, true, false, cond, List, [], ◌∷◌, ◌++◌, filter, not, Result, Ok, Err, OnErr, String, Global, string_bytes, Some, None, int_cmp, int_eq, refl, sym, ap, ap₂, subst}
 use Rattle.std.specs.BTreeMap.{IsOrdered, WritesThrough, get}
 use Rattle.std.specs.Cmp.{int_eq_equiv}
 use Rattle.tree_state.specs.declared.session.Session as code
@@ -7,8 +7,8 @@ use Rattle.tree_state.specs.declared.session.Sessions.{Sessions}
 use Rattle.tree_state.specs.Commands.{IsTextOf}
 use Rattle.tree_state.specs.Nodes.{Path, same_path}
 use Rattle.tree_state.specs.State.{Session, session_at, is_numbered, changed_session, change_session}
-use Rattle.tree_state.specs.Sessions.{Keeps, with_owned, without_owned, Owning, OwnTexts, session_at_key}
-use Rattle.tree_state.proofs.SessionMaps.{sessions_of, not_found, owns_elsewhere, owns_found, owns_more}
+use Rattle.tree_state.specs.Sessions.{Keeps, is_other_text, with_owned, without_owned, Owning, OwnTexts, session_at_key}
+use Rattle.tree_state.proofs.SessionMaps.{sessions_of, not_found, owns_elsewhere, owns_found, owns_more, owns_less}
 use Rattle.tree_state.proofs.SessionTies.{stays}
 use Rattle.tree_state.proofs.SessionsKept.{Live, with_maps, rewritten}
 
@@ -41,6 +41,18 @@ owned_more t live j k v w text p xs owned same order h writes value more is keep
     (λ i other. ap (λ (b : Bool). cond b (owned i ++ p ∷ []) (owned i)) other)
     (subst (λ (b : Bool). OwnTexts w.ephemerals.items (cond b (owned j ++ p ∷ []) (owned j))) (sym (int_eq_equiv.refl j))
     (owns_more v.ephemerals.items w.ephemerals.items (owned j) text p more is (owns_found j owned t.live.entries v (sym h) keeps.owns))) keeps)
+
+pub owned_less : (t : Sessions) (live : Live) (j k : ℤ) (v w : code.Session) (text : List ℕ) (p : Path) (xs : List Session) (owned : Owning) → j ≡ k
+    → IsOrdered int_cmp t.live → Some v ≡ get int_cmp t.live j → WritesThrough int_cmp (int_cmp j) t.live w live
+    → w ≡ record v { ephemerals = w.ephemerals } → w.ephemerals.items ≡ filter (is_other_text text) v.ephemerals.items → IsTextOf text p → Keeps t xs owned
+    → Keeps (with_maps live t.connections) xs (without_owned k p owned)
+unfolding without_owned session_at_key
+owned_less t live j k v w text p xs owned same order h writes value less is keeps =
+    subst (λ (z : ℤ). Keeps (with_maps live t.connections) xs (without_owned z p owned)) same
+    (owned_anew t live j v w xs owned (without_owned j p owned) order h writes (ap (λ (u : code.Session). session_at_key (j, u)) value)
+    (λ i other. ap (λ (b : Bool). cond b (filter (λ q. not (same_path q p)) (owned i)) (owned i)) other)
+    (subst (λ (b : Bool). OwnTexts w.ephemerals.items (cond b (filter (λ q. not (same_path q p)) (owned j)) (owned j))) (sym (int_eq_equiv.refl j))
+    (owns_less v.ephemerals.items w.ephemerals.items (owned j) text p less is (owns_found j owned t.live.entries v (sym h) keeps.owns))) keeps)
 
 -- as many paths as before are told
 pub owned_same : (t : Sessions) (live : Live) (j : ℤ) (v w : code.Session) (xs : List Session) (owned : Owning)
