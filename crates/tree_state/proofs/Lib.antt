@@ -17,3 +17,11 @@ pub mod Root
 pub mod Copied
 pub mod Rows
 pub mod Reading
+mod SessionLists
+mod SessionMaps
+mod SessionTies
+mod SessionsEnded
+mod SessionsGiven
+mod SessionsKept
+mod SessionsMoved
+mod SessionsOwning
