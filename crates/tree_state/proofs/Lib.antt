@@ -17,3 +17,5 @@ pub mod Root
 pub mod Copied
 pub mod Rows
 pub mod Reading
+pub mod Owned
+pub mod Changed
