@@ -25,3 +25,5 @@ mod SessionsGiven
 mod SessionsKept
 mod SessionsMoved
 mod SessionsOwning
+pub mod Owned
+pub mod Changed
