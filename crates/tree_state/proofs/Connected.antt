@@ -1,5 +1,5 @@
 -- What is held after a connect request, and after a connection is lost.
-use Rattle.std.proofs.Common.{◌≡◌, ◌⊎◌, ℕ, ℤ, ◌<ℤ◌, ◌≤ℤ◌, ◌+ℤ◌, pos, Bool, true, false, cond, List, [], ◌∷◌, ◌++◌, map, Option, Some, None, Result, Ok, Err, All, OnErr, int_cmp, int_eq, is_some, option_map, refl, sym, ap, ◌∙◌, subst, inl, inr, arith}
+use Rattle.std.proofs.Common.{◌≡◌, ◌⊎◌, ℕ, ℤ, ◌<ℤ◌, ◌≤ℤ◌, ◌+ℤ◌, pos, Bool, true, false, cond, List, [], ◌∷◌, ◌++◌, map, Option, Some, None, Result, Ok, Err, All, OnErr, int_cmp, int_eq, is_some, option_map, refl, sym, ap, ◌∙◌, subst, inl, inr, arith, FitsSigned, w64, to_z, of_z}
 use Rattle.std.specs.BTreeMap.{get}
 use Rattle.std.specs.Cmp.{signed_Decides}
 use Rattle.std.specs.Int.Signed.{≤ℤ_refl, clash_ℤ}
@@ -226,10 +226,58 @@ connect_opened naming s c asked g now before sessions last outputs means positiv
         let first = All-head (IsGiven s) x xs h in
         All-cons (IsGiven u) x (xs ++ y ∷ []) (record { above = first.above; within = at_most x.number s.greatest u.greatest first.within more }) (all_given s u y more new xs (All-tail (IsGiven s) x xs h))
 
+-- ---- the ends, from what the code finds
+
+-- the next zxid, as the code has it
+pub next_last : (a b : ℤ) → a ≡ b → FitsSigned w64 b → b <ℤ pos 9223372036854775807 → to_z w64 (of_z w64 (to_z w64 (of_z w64 a) +ℤ pos 1)) ≡ b +ℤ pos 1
+next_last a b same fits low = subst (λ (z : ℤ). to_z w64 (of_z w64 (to_z w64 (of_z w64 z) +ℤ pos 1)) ≡ b +ℤ pos 1) (sym same) (omega (arith, ints))
+
+-- a session that the test finds
+found_live : (k : ℤ) (xs : List Session) → true ≡ is_some (session_at k xs) → (x : Session) × (session_at k xs ≡ Some x)
+found_live k xs h = go (session_at k xs) h
+  where
+    go : (o : Option Session) → true ≡ is_some o → (x : Session) × (o ≡ Some x)
+    go None i = absurd cc
+    go (Some x) i = (x, refl)
+
+found_none : (k : ℤ) (xs : List Session) → false ≡ is_some (session_at k xs) → session_at k xs ≡ None
+found_none k xs h = go (session_at k xs) h
+  where
+    go : (o : Option Session) → false ≡ is_some o → o ≡ None
+    go None i = refl
+    go (Some x) i = absurd cc
+
+pub moved_so : (naming : Naming) (s : State) (c : ℕ) (asked : ConnectRequest) (g : Given) (now then : ℤ) (j last : ℤ) (before joined : Held) (sessions : Sessions) (outputs : List Output)
+    → Means before s → session_of c s.sessions ≡ None → (g.session ≡ pos 0 → ⊥) → j ≡ g.session → then ≡ now → true ≡ is_some (session_at j s.sessions) → outputs ≡ answer_connect c asked g ∷ []
+    → joined ≡ with_sessions before sessions before.last → last ≡ before.last +ℤ pos 1
+    → ((xs : List Session) (owned : Owning) (x : Session) → Keeps before.sessions xs owned → session_of c xs ≡ None → session_at g.session xs ≡ Some x → Keeps sessions (with_moved g then c xs) owned)
+    → Does naming s (connects c asked g now) (with_sessions joined joined.sessions last) outputs
+moved_so naming s c asked g now then j last before joined sessions outputs means free some same at live sent join next moves =
+    let found = found_live g.session s.sessions (subst (λ (k : ℤ). true ≡ is_some (session_at k s.sessions)) same live) in
+    subst (λ (h : Held). Does naming s (connects c asked g now) (with_sessions h h.sessions last) outputs) (sym join)
+    (connect_moved naming s c asked g now before sessions last found.0 outputs means some found.1 next sent
+    (subst (λ (z : ℤ). Keeps sessions (with_moved g z c s.sessions) (λ session. ephemerals session s.nodes)) at
+    (moves s.sessions (λ session. ephemerals session s.nodes) found.0 means.sessions free found.1)))
+
+pub opened_so : (naming : Naming) (s : State) (c : ℕ) (asked : ConnectRequest) (fresh : ℤ) (password : List ℕ) (g : Given) (now then : ℤ) (j last : ℤ) (before joined : Held) (sessions : Sessions) (outputs : List Output)
+    → Means before s → CanConnect s c fresh → g ≡ given_to s.sessions asked fresh password → (g.session ≡ pos 0 → ⊥) → j ≡ g.session → then ≡ now → false ≡ is_some (session_at j s.sessions)
+    → outputs ≡ answer_connect c asked g ∷ [] → joined ≡ with_sessions before sessions before.last → last ≡ before.last +ℤ pos 1
+    → ((xs : List Session) (owned : Owning) → Keeps before.sessions xs owned → session_of c xs ≡ None → AreBelow g.session xs → owned g.session ≡ [] → Keeps sessions (with_session g then c xs) owned)
+    → Does naming s (connects c asked g now) (with_sessions joined joined.sessions last) outputs
+opened_so naming s c asked fresh password g now then j last before joined sessions outputs means can given some same at absent sent join next opens =
+    let none = found_none g.session s.sessions (subst (λ (k : ℤ). false ≡ is_some (session_at k s.sessions)) same absent) in
+    let number = opened_next naming s c asked fresh password g given some none in
+    let more = subst (λ (k : ℤ). s.greatest <ℤ k) (sym number) can.above in
+    let new = next_is_new s g.session before means more in
+    subst (λ (h : Held). Does naming s (connects c asked g now) (with_sessions h h.sessions last) outputs) (sym join)
+    (connect_opened naming s c asked g now before sessions last outputs means (subst (λ (k : ℤ). pos 1 ≤ℤ k) (sym number) can.positive) more none next sent
+    (subst (λ (z : ℤ). Keeps sessions (with_session g z c s.sessions) (λ session. ephemerals session s.nodes)) at
+    (opens s.sessions (λ session. ephemerals session s.nodes) means.sessions can.free new.0 new.1)))
+
 -- want of memory leaves all as it was
-pub connect_failed : (r : Result (List Output) Memory) (before : Held) (sessions : Sessions)
+pub connect_failed : (before : Held) (sessions : Sessions)
     → ((xs : List Session) (owned : Owning) → Keeps before.sessions xs owned → Keeps sessions xs owned) → Stays before (with_sessions before sessions before.last)
-connect_failed r before sessions keeps = λ s means. record {
+connect_failed before sessions keeps = λ s means. record {
   places = means.places;
   sessions = keeps s.sessions (λ session. ephemerals session s.nodes) means.sessions;
   owners = means.owners;

@@ -27,3 +27,5 @@ mod SessionsMoved
 mod SessionsOwning
 pub mod Owned
 pub mod Changed
+mod Ended
+mod Connected
