@@ -1,25 +1,26 @@
 -- The nodes of a session that ends go one after another: what is there meanwhile, and at the end.
-use Rattle.std.proofs.Common.{◌≡◌, ℕ, ℤ, Bool, true, false, cond, not, List, [], ◌∷◌, ◌++◌, Option, Some, None, String, Global, string_bytes, map, filter, refl, sym, ap, subst, ◌∙◌, inl, inr, int_eq}
-use Rattle.std.specs.Prelude.{All, pos, ◌≤ℤ◌}
+use Rattle.std.proofs.Common.{◌≡◌, ℕ, ℤ, Bool, true, false, cond, not, List, [], ◌∷◌, ◌++◌, Option, Some, None, String, Global, string_bytes, map, filter, refl, sym, ap, subst, subst₂, ◌∙◌, inl, inr, int_eq}
+use Rattle.std.specs.Prelude.{All, pos, ◌≤ℤ◌, ◌+ℤ◌}
 use Rattle.std.specs.Cmp.{signed_Decides}
 use Rattle.std.specs.Int.Signed.{clash_ℤ}
 use Rattle.std.specs.List.{filter_map, cons_option, AllZip}
 use Rattle.std.proofs.lemmas.Bool.{cases_Bool}
-use Rattle.std.proofs.lemmas.List.Elements.{All-nil, All-cons, All-filter}
+use Rattle.std.proofs.lemmas.List.Elements.{All-nil, All-cons, All-head, All-tail, All-filter}
 use Rattle.zk_messages.specs.declared.reply.OpResult.TheVariants as results
 use Rattle.tree_state.specs.declared.held.Held.{Held}
 use Rattle.tree_state.specs.declared.node.Moment.{Moment}
 use Rattle.tree_state.specs.declared.places.Places.{Places}
 use Rattle.tree_state.specs.Nodes.{Path, Node, Place, above, same_path, find, is_there, change, is_elsewhere, remove, has_children, path_if_owned, ephemerals}
-use Rattle.tree_state.specs.State.{State, Session, Watch, told, left, left_of_others, session_at, is_numbered, is_other_session, without_session}
+use Rattle.tree_state.specs.State.{State, Session, Watch, told, left, left_of_others, session_at, is_numbered, is_other_session, without_session, next_zxid}
 use Rattle.tree_state.specs.Commands.{IsTextOf}
-use Rattle.tree_state.specs.Changes.{Effect, Effects, with_deletion, events_to, is_not_in, deleted, all_deleted, no_effects}
-use Rattle.tree_state.specs.Step.{ended, watches_gone, connection_at}
+use Rattle.tree_state.specs.Changes.{Naming, Effect, Effects, with_deletion, events_to, is_not_in, deleted, all_deleted, no_effects}
+use Rattle.tree_state.specs.Step.{Act, expires, step, ended, expired, watches_gone, connection_at}
 use Rattle.tree_state.specs.Places.{IsApart, Holds}
 use Rattle.tree_state.specs.Sessions.{Keeps, Owning, OwnTexts}
-use Rattle.tree_state.specs.Trees.{Means, AreOwned, IsGiven}
+use Rattle.tree_state.specs.Trees.{Means, Does, AreOwned, IsGiven, IsMoment}
 use Rattle.tree_state.proofs.SamePaths.{same_path-true, same_path-from, same_path-sym, same_path-above}
 use Rattle.tree_state.proofs.Found.{found_there, find_changed-same, find_changed-other, children_changed, remove_absent, apart_changed}
+use Rattle.tree_state.proofs.SessionLists.{none_live, at_first, at_others, number_of}
 use Rattle.tree_state.proofs.Owned.{number_flips, ephemerals_changed, ephemerals_removed-other, keeps_same, owned_changed, owned_removed, given_so}
 
 -- ---- the first of a session's ephemerals
@@ -275,3 +276,48 @@ session_ended before after at s means a keeps last =
       watches = refl;
       last = last;
     })
+
+-- ---- the end of a session that was not heard in time
+
+-- a live session was given
+live_given : (s : State) (k : ℤ) (xs : List Session) (x : Session) → All (IsGiven s) xs → session_at k xs ≡ Some x → IsGiven s x
+live_given s k [] x given live = absurd (none_live k x live)
+live_given s k (y ∷ ys) x given live = elim (cases_Bool (is_numbered k y)) [
+  | inl numbered ↦ let same : y ≡ x = some_same (sym (at_first k y ys numbered) ∙ live) in subst (IsGiven s) same (All-head (IsGiven s) y ys given)
+  | inr other ↦ live_given s k ys x (All-tail (IsGiven s) y ys given) (sym (at_others k y ys other) ∙ live)
+]
+  where
+    some_same : {A : Type 0} {a b : A} → Some a ≡ Some b → a ≡ b
+    some_same h = cc
+
+-- the moment at which a live session ends
+pub is_moment : (s : State) (x : Session) (session : ℤ) (before : Held) (at : Moment) → Means before s → session_at session s.sessions ≡ Some x
+    → at.zxid ≡ before.last +ℤ pos 1 → at.session ≡ session → IsMoment s at
+unfolding next_zxid
+is_moment s x session before at means live next same =
+    let given = live_given s session s.sessions x means.numbers live in
+    let number = number_of session s.sessions x live ∙ sym same in
+    record {
+      next = next ∙ ap (λ (z : ℤ). z +ℤ pos 1) means.last;
+      positive = subst (λ (k : ℤ). pos 1 ≤ℤ k) number given.above;
+      given = subst (λ (k : ℤ). k ≤ℤ s.greatest) number given.within;
+    }
+
+quiet : (z : ℤ) (ps : List Path) (s : State) → s.watches ≡ [] → [] ≡ (all_deleted z ps s).events
+quiet z ps s h = sym (ap (λ (e : Effects). e.events) (all_deleted_is z ps s h))
+
+-- what the end of a session ensures
+abbrev pub Ends : Held → Held → Moment → Type 0
+Ends before after at = (s : State) (x : Session) → Means before s → IsMoment s at → session_at at.session s.sessions ≡ Some x
+    → Means after (ended at.session (all_deleted at.zxid (ephemerals at.session s.nodes) s).state)
+
+pub session_expired : (naming : Naming) (s : State) (x : Session) (session now : ℤ) (before after : Held) (at : Moment) → Means before s → session_at session s.sessions ≡ Some x
+    → at.zxid ≡ before.last +ℤ pos 1 → at.session ≡ session → Ends before after at → Does naming s (expires session now) after []
+unfolding step expired next_zxid
+session_expired naming s x session now before after at means live next same ends =
+    let moment = is_moment s x session before at means live next same in
+    let there = subst (λ (k : ℤ). session_at k s.sessions ≡ Some x) (sym same) live in
+    record {
+      sent = quiet (next_zxid s) (ephemerals session s.nodes) s means.watches;
+      means = subst₂ (λ (k z : ℤ). Means after (ended k (all_deleted z (ephemerals k s.nodes) s).state)) same moment.next (ends s x means moment there);
+    }
