@@ -27,3 +27,7 @@ mod SessionsKept
 mod SessionsMoved
 mod SessionsOwning
 pub mod Serving
+pub mod Owned
+pub mod Changed
+mod Ended
+mod Connected

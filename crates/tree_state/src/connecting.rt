@@ -68,7 +68,7 @@ fn answer_connect(alloc: Global, connection: u32, asked: &ConnectRequest, given:
         timeout: given.timeout,
         session: given.session,
         password,
-        read_only: asked.read_only.map(|_| false),
+        read_only: asked.read_only.and(Some(false)),
     };
     let mut outputs = Vec::new(alloc);
     outputs.push(Output {
