@@ -19,3 +19,12 @@ pub mod Rows
 pub mod Reading
 pub mod Owned
 pub mod Changed
+pub mod Alone
+mod SessionLists
+mod SessionMaps
+mod SessionTies
+mod SessionsEnded
+mod SessionsGiven
+mod SessionsKept
+mod SessionsMoved
+mod SessionsOwning

@@ -1,14 +1,16 @@
 -- Which sessions two ordered maps keep.
-use Rattle.std.specs.Prelude.{◌≡◌, ◌<ℤ◌, ℕ, ℤ, List, [], ◌∷◌, ◌++◌, map, filter, not, Bool, true, false, Option, Some, None, All, String, if◌then◌else◌}
+use Rattle.std.specs.Prelude.{◌≡◌, ◌<ℤ◌, ℕ, ℤ, List, [], ◌∷◌, ◌++◌, map, filter, not, Bool, Some, All, String, if◌then◌else◌}
 use Rattle.std.specs.BTreeMap.{get}
 use Rattle.std.specs.Global.{Global}
+use Rattle.std.specs.List.{AllZip}
 use Rattle.std.specs.Ordering.{int_eq, nat_cmp}
+use Rattle.std.specs.Str.{bytes_eq}
 use Rattle.std.specs.String.{string_bytes}
-use Rattle.zk_path.specs.Paths.{text_of}
 use Rattle.tree_state.specs.declared.session.Session as code
 use Rattle.tree_state.specs.declared.session.Sessions.{Sessions}
+use Rattle.tree_state.specs.Commands.{IsTextOf}
 use Rattle.tree_state.specs.Nodes.{Path, same_path}
-use Rattle.tree_state.specs.State.{Session, session_of, session_at, has_connection}
+use Rattle.tree_state.specs.State.{Session, session_of, session_at}
 
 -- the paths of a session's ephemerals, in the order in which they were made
 abbrev pub Owning : Type 0
@@ -23,9 +25,9 @@ session_at_key e = record {
   connection = e.1.connection;
 }
 
--- the texts of the paths
+-- each text is that of its path, which is legal
 unfoldable pub OwnTexts : List (String Global) → List Path → Type 0
-OwnTexts texts ps = map string_bytes texts ≡ map text_of ps
+OwnTexts texts ps = AllZip IsTextOf (map string_bytes texts) ps
 
 abbrev pub OwnsPaths : Owning → ℤ × code.Session → Type 0
 OwnsPaths owned e = OwnTexts e.1.ephemerals.items (owned e.0)
@@ -52,3 +54,7 @@ with_owned session p owned k = if int_eq k session then owned k ++ p ∷ [] else
 -- and one of them went
 unfoldable pub without_owned : ℤ → Path → Owning → Owning
 without_owned session p owned k = if int_eq k session then filter (λ q. not (same_path q p)) (owned k) else owned k
+
+-- the text is not this one
+abbrev pub is_other_text : List ℕ → String Global → Bool
+is_other_text text other = not (bytes_eq (string_bytes other) text)

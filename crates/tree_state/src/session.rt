@@ -1,13 +1,15 @@
 //! The live sessions and their connections.
 
-ghost use Rattle.std.specs.Prelude.{◌≡◌, ◌<ℤ◌, ℕ, ℤ, pos, List, [], ◌∷◌, ◌++◌, Bool, true, false, Some, None, is_some, map, filter, IfOk, IfErr, OnOk, OnErr};
+ghost use Rattle.std.specs.Prelude.{◌≡◌, ◌<ℤ◌, ℕ, ℤ, pos, List, [], ◌∷◌, ◌++◌, Bool, true, false, Some, None, is_some, map, filter, IfOk, IfErr, IsSome, OnOk, OnErr};
+ghost use Rattle.std.specs.BTreeMap.{Updates, get};
+ghost use Rattle.std.specs.Ordering.{nat_cmp};
 ghost use Rattle.std.specs.String.{string_bytes};
 ghost use Rattle.zk_path.specs.Paths.{text_of};
 ghost use Rattle.tree_state.specs.Commands.{IsTextOf};
 ghost use Rattle.tree_state.specs.Nodes.{Path};
 ghost use Rattle.tree_state.specs.State.{Session as PlainSession, session_of, session_at, change_session, heard_at, without_session, without_connection};
-ghost use Rattle.tree_state.specs.Step.{given_to, with_session, with_moved};
-ghost use Rattle.tree_state.specs.Sessions.{Keeps, AreBelow, Owning, with_owned, without_owned, OwnTexts};
+ghost use Rattle.tree_state.specs.Step.{given_to, is_password_of, no_session as nothing_given, with_session, with_moved};
+ghost use Rattle.tree_state.specs.Sessions.{Keeps, AreBelow, Owning, session_at_key, with_owned, without_owned, is_other_text, OwnTexts};
 
 use jute_core::Memory;
 use std::alloc::Global;
@@ -109,13 +111,19 @@ impl Sessions {
     }
 
     /// A new session, above all others, on a connection that has none. Without memory all is as it was.
-    pub(crate) fn open(&mut self, alloc: Global, given: &Given, now: i64, connection: u32) -> Result<(), Memory>
+    pub(crate) fn open(
+        &mut self,
+        alloc: Global,
+        given: &Given,
+        now: i64,
+        connection: u32,
+    ) -> Result<(), Memory>
         ensures ok { OnOk result ((xs : List PlainSession) (owned : Owning) → Keeps self.old xs owned
             → session_of connection xs ≡ None → AreBelow given.now.session xs → owned given.now.session ≡ []
             → Keeps self.new (with_session given.now now connection xs) owned) }
         ensures err { OnErr result ((xs : List PlainSession) (owned : Owning) → Keeps self.old xs owned → Keeps self.new xs owned) }
     {
-        self.connections.insert(connection, given.session)?;
+        let before = self.connections.insert(connection, given.session)?;
         let session = Session {
             timeout: given.timeout,
             password: given.password,
@@ -123,11 +131,13 @@ impl Sessions {
             connection: Some(connection),
             ephemerals: Vec::new(alloc),
         };
-        if self.live.insert(given.session, session).is_err() {
-            self.connections.remove(&connection);
-            return Err(Memory);
+        match self.live.insert(given.session, session) {
+            Ok(_) => Ok(()),
+            Err(_) => {
+                put_back(&mut self.connections, connection, before);
+                Err(Memory)
+            }
         }
-        Ok(())
     }
 
     /// A live session moves to a connection that has none. Without memory all is as it was.
@@ -154,9 +164,10 @@ impl Sessions {
         ensures { (xs : List PlainSession) (owned : Owning) → Keeps self.old xs owned
             → Keeps self.new (map (without_connection connection) xs) owned }
     {
-        if let Some(session) = self.connections.remove(&connection)
-            && let Some(live) = self.live.get_mut(&session)
-        {
+        let Some(session) = self.connections.remove(&connection) else {
+            return;
+        };
+        if let Some(live) = self.live.get_mut(&session) {
             live.connection = None;
         }
     }
@@ -167,8 +178,9 @@ impl Sessions {
             → Keeps self.new xs (with_owned session p owned)) }
         ensures err { OnErr result ((xs : List PlainSession) (owned : Owning) → Keeps self.old xs owned → Keeps self.new xs owned) }
     {
+        let path = path.to_string(alloc)?;
         if let Some(live) = self.live.get_mut(&session) {
-            live.ephemerals.push(path.to_string(alloc)?)?;
+            live.ephemerals.push(path)?;
         }
         Ok(())
     }
@@ -179,7 +191,7 @@ impl Sessions {
             → Keeps self.new xs (without_owned session p owned) }
     {
         if let Some(live) = self.live.get_mut(&session) {
-            live.ephemerals.retain(|text| text.as_str() != path);
+            remove_text(&mut live.ephemerals, path);
         }
     }
 
@@ -202,16 +214,42 @@ impl Sessions {
 
 impl Session {
     // The request has the password of this session.
-    fn has_password(&self, asked: &ConnectRequest) -> bool {
+    #[tactic(auto, unfolding(crate::specs::Step::is_password_of, crate::specs::Sessions::session_at_key))]
+    fn has_password(&self, asked: &ConnectRequest) -> bool
+        ensures { (session : ℤ) → result ≡ is_password_of asked.now.password (session_at_key (session, self.now)) }
+    {
         match &asked.password {
-            Some(password) => password.as_slice() == self.password.as_slice(),
+            Some(password) => self.password.as_slice() == password.as_slice(),
             None => false,
         }
     }
 }
 
+// A connection that has a session has again what it had before. Takes no memory.
+fn put_back(connections: &mut BTreeMap<u32, i64>, connection: u32, before: Option<i64>)
+    ensures { IsSome (get nat_cmp connections.old connection) → Updates nat_cmp connections.old connections.new connection before }
+{
+    let Some(before) = before else {
+        connections.remove(&connection);
+        return;
+    };
+    if let Some(session) = connections.get_mut(&connection) {
+        *session = before;
+    }
+}
+
+// Takes this text out of a list. Takes no memory.
+fn remove_text(texts: &mut Vec<String>, text: &str)
+    ensures { texts.new.items ≡ filter (is_other_text text.now) texts.old.items }
+{
+    texts.retain(|kept| kept.as_str() != text);
+}
+
 // What a connect is given that gets no session.
-fn no_session() -> Given {
+#[tactic(auto, unfolding(crate::specs::Step::no_session))]
+fn no_session() -> Given
+    ensures { result ≡ nothing_given }
+{
     Given {
         session: 0,
         timeout: 0,
