@@ -17,6 +17,8 @@ pub mod Root
 pub mod Copied
 pub mod Rows
 pub mod Reading
+pub mod Owned
+pub mod Changed
 pub mod Alone
 mod SessionLists
 mod SessionMaps
@@ -27,7 +29,5 @@ mod SessionsKept
 mod SessionsMoved
 mod SessionsOwning
 pub mod Serving
-pub mod Owned
-pub mod Changed
 mod Ended
 mod Connected
