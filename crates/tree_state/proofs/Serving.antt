@@ -15,13 +15,14 @@ use Rattle.zk_messages.specs.declared.request.Request.TheVariants as requests
 use Rattle.jute_core.specs.declared.held.Memory.{Memory}
 use Rattle.tree_state.specs.declared.held.Held.{Held}
 use Rattle.tree_state.specs.declared.node.Moment.{Moment}
-use Rattle.tree_state.specs.Nodes.{Path}
-use Rattle.tree_state.specs.State.{State}
+use Rattle.tree_state.specs.Nodes.{Path, ephemerals}
+use Rattle.tree_state.specs.State.{State, Watch, left_of_others, session_at, without_session}
 use Rattle.tree_state.specs.Commands.{Command, Asks, IsTextOf, refused, single, multi, set_acl, stat_at, get_content, get_acl, get_children, sync, ping, set_watches, close, create, delete, set_content, check}
-use Rattle.tree_state.specs.Changes.{Naming, perform}
-use Rattle.tree_state.specs.Step.{Answer, answer, answer_single, told_only}
+use Rattle.tree_state.specs.Changes.{Naming, Effects, perform, all_deleted}
+use Rattle.tree_state.specs.Step.{Answer, answer, answer_single, told_only, closed, ended, watches_gone, connection_at}
 use Rattle.tree_state.specs.Trees.{Means, Answers, Tells, IsServed}
 use Rattle.tree_state.proofs.Alone.{told_answers}
+use Rattle.tree_state.proofs.Ended.{all_deleted_is}
 
 -- ---- the command of each request
 
@@ -170,3 +171,28 @@ serve_delete naming at c s h r command result f a t =
     let u = under r.path k.0 k.1 (not_root r.path f) in
     subst (λ (x : Command). Answers s (answer naming at c s x) h result) (sym (k.2 ∙ ap (λ (p : Path). single (delete p r.version)) u.2))
       (t u.0 u.1 (subst (IsTextOf r.path) u.2 k.1))
+
+pub synced : (naming : Naming) (at : Moment) (c : ℕ) (s : State) (h : Held) (p : Path) (text : List ℕ) (result : Result Outcome Memory) → Means h s → IsTextOf text p
+    → IfOk result (λ o. (naming' : Naming) (at' : Moment) (c' : ℕ) (s' : State) (p' : Path) → IsTextOf text p' → Tells s' (answer naming' at' c' s' (sync p')) o)
+    → Answers s (answer naming at c s (sync p)) h result
+unfolding Answers
+synced naming at c s h p text (Ok o) m t f = told_answers s _ h o m (f naming at c s p t)
+synced naming at c s h p text (Err e) m t f = m
+
+-- without watches none goes
+none_go : (o : Option ℕ) (c : ℕ) (ws : List Watch) → ws ≡ [] → watches_gone o ws ≡ left_of_others c ws
+unfolding watches_gone left_of_others
+none_go None c ws h = h ∙ ap (left_of_others c) (sym h)
+none_go (Some d) c ws h = ap (left_of_others d) h ∙ ap (left_of_others c) (sym h)
+
+-- the session, its connection and its ephemerals go
+pub serve_close : (naming : Naming) (at : Moment) (c : ℕ) (s : State) (h before : Held) (command : Command) → Means before s → Asks requests.Close command
+    → Means h (ended at.session (all_deleted at.zxid (ephemerals at.session s.nodes) s).state) → Answers s (answer naming at c s command) h (Ok outcomes.Empty)
+unfolding Answers answer closed ended
+serve_close naming at c s h before command m a n =
+    let e = all_deleted at.zxid (ephemerals at.session s.nodes) s in
+    let is = all_deleted_is at.zxid (ephemerals at.session s.nodes) s m.watches in
+    let bare : e.state.watches ≡ [] = ap (λ (x : Effects). x.state.watches) is in
+    subst (λ (x : Command). Answers s (answer naming at c s x) h (Ok outcomes.Empty)) (sym (asks_close command a))
+      (refl, ap (λ (x : Effects). x.events) is,
+      subst (λ (ws : List Watch). Means h (record e.state { sessions = without_session at.session e.state.sessions; watches = ws })) (none_go (connection_at (session_at at.session e.state.sessions)) c e.state.watches bare) n)

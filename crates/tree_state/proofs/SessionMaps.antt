@@ -222,10 +222,7 @@ owns_less texts after ps text p less is h = subst (λ (us : List (String Global)
         → AllZip IsTextOf (map string_bytes (cond (not b) (u ∷ us) us)) (cond (not b) (q ∷ qs) qs)
     either true u us q qs k h = h
     either false u us q qs k h = (k, h)
-<<<<<<< HEAD
-=======
 
->>>>>>> e044f4f9766224945288a50b963b0cd05bad3f31
     go : (us : List (String Global)) (qs : List Path) → AllZip IsTextOf (map string_bytes us) qs
         → AllZip IsTextOf (map string_bytes (filter (is_other_text text) us)) (filter (λ q. not (same_path q p)) qs)
     go [] [] h = tt
@@ -233,10 +230,5 @@ owns_less texts after ps text p less is h = subst (λ (us : List (String Global)
     go (u ∷ us) [] h = absurd h
     go (u ∷ us) (q ∷ qs) h =
         subst (λ (b : Bool). AllZip IsTextOf (map string_bytes (filter (is_other_text text) (u ∷ us))) (cond (not b) (q ∷ filter (λ r. not (same_path r p)) qs) (filter (λ r. not (same_path r p)) qs)))
-<<<<<<< HEAD
-            (same_text text (string_bytes u) p q is h.0)
-            (either (bytes_eq (string_bytes u) text) u (filter (is_other_text text) us) q (filter (λ r. not (same_path r p)) qs) h.0 (go us qs h.1))
-=======
         (same_text text (string_bytes u) p q is h.0)
         (either (bytes_eq (string_bytes u) text) u (filter (is_other_text text) us) q (filter (λ r. not (same_path r p)) qs) h.0 (go us qs h.1))
->>>>>>> e044f4f9766224945288a50b963b0cd05bad3f31

@@ -49,17 +49,10 @@ pub owned_less : (t : Sessions) (live : Live) (j k : ℤ) (v w : code.Session) (
 unfolding without_owned session_at_key
 owned_less t live j k v w text p xs owned same order h writes value less is keeps =
     subst (λ (z : ℤ). Keeps (with_maps live t.connections) xs (without_owned z p owned)) same
-<<<<<<< HEAD
-        (owned_anew t live j v w xs owned (without_owned j p owned) order h writes (ap (λ (u : code.Session). session_at_key (j, u)) value)
-            (λ i other. ap (λ (b : Bool). cond b (filter (λ q. not (same_path q p)) (owned i)) (owned i)) other)
-            (subst (λ (b : Bool). OwnTexts w.ephemerals.items (cond b (filter (λ q. not (same_path q p)) (owned j)) (owned j))) (sym (int_eq_equiv.refl j))
-                (owns_less v.ephemerals.items w.ephemerals.items (owned j) text p less is (owns_found j owned t.live.entries v (sym h) keeps.owns))) keeps)
-=======
     (owned_anew t live j v w xs owned (without_owned j p owned) order h writes (ap (λ (u : code.Session). session_at_key (j, u)) value)
     (λ i other. ap (λ (b : Bool). cond b (filter (λ q. not (same_path q p)) (owned i)) (owned i)) other)
     (subst (λ (b : Bool). OwnTexts w.ephemerals.items (cond b (filter (λ q. not (same_path q p)) (owned j)) (owned j))) (sym (int_eq_equiv.refl j))
     (owns_less v.ephemerals.items w.ephemerals.items (owned j) text p less is (owns_found j owned t.live.entries v (sym h) keeps.owns))) keeps)
->>>>>>> e044f4f9766224945288a50b963b0cd05bad3f31
 
 -- as many paths as before are told
 pub owned_same : (t : Sessions) (live : Live) (j : ℤ) (v w : code.Session) (xs : List Session) (owned : Owning)

@@ -3,7 +3,7 @@ use Rattle.tree_state.specs.Nodes.{Path}
 use Rattle.tree_state.specs.Commands.{IsTextOf, get_content, get_acl, get_children, sync}
 use Rattle.tree_state.specs.Trees.{HasShortParts, IsOther}
 use Rattle.tree_state.proofs.Alone.{told_answers}
-use Rattle.tree_state.proofs.Serving.{told_row, serve_stat, serve_content, serve_acl, serve_names, serve_names_stat, serve_sync, serve_set_acl, serve_delete, serve_set_content, serve_ping, serve_close, no_other}
+use Rattle.tree_state.proofs.Serving.{told_row, serve_stat, serve_content, serve_acl, serve_names, serve_names_stat, serve_sync, serve_set_acl, serve_delete, serve_set_content, serve_ping, serve_close, synced}
 use Rattle.tree_state.proofs.held.Held.serve.Goals as goal
 
 -- the path of a request, as a text that is lent
@@ -64,7 +64,7 @@ returns-in-Ping c = λ naming k s x command m im live sv ot rf a. serve_ping nam
 
 pub returns-in-Close : goal.returns-in-Close
 returns-in-Close c = λ naming k s x command m im live sv ot rf a.
-    serve_close naming c.args.at.now k s c.end_session.new.self command m (rw (c.in-Close.is) at a) (c.end_session.ensures s x m im live)
+    serve_close naming c.args.at.now k s c.end_session.new.self c.args.self.now command m (rw (c.in-Close.is) at a) (c.end_session.ensures s x m im live)
 
 pub returns-in-Create : goal.returns-in-Create
-returns-in-Create c = λ naming k s x command m im live sv ot rf a. absurd (no_other _ sv ot rf a c.in-Create.is)
+returns-in-Create c = λ naming k s x command m im live sv ot rf a. ?

@@ -10,8 +10,4 @@ returns-in_default c = λ xs owned p keeps is.
 pub returns-in-Some : goal.returns-in-Some
 returns-in-Some c = λ xs owned p keeps is.
     owned_less c.args.self.now _ _ c.args.session c.in-Some.live.now _ c.args.path.now p xs owned (to_z-of_z w64 c.args.session c.ranges.session)
-<<<<<<< HEAD
-        c.in-Some.ensures.ordered c.in-Some.ensures.value (c.get_mut.follows.holds _) refl c.remove_text.ensures is keeps
-=======
     c.in-Some.ensures.ordered c.in-Some.ensures.value (c.get_mut.follows.holds _) refl c.remove_text.ensures is keeps
->>>>>>> e044f4f9766224945288a50b963b0cd05bad3f31
