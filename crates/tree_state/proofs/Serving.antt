@@ -2,6 +2,10 @@
 use Rattle.std.proofs.Common.{◌≡◌, ◌≢◌, ℕ, ℤ, Bool, true, false, List, [], ◌∷◌, Option, Some, None, Result, Ok, Err, refl, sym, ap, subst, ◌∙◌, inl, inr}
 use Rattle.std.specs.Prelude.{IfOk}
 use Rattle.zk_path.specs.Paths.{text_of}
+use Rattle.jute_core.specs.declared.held.Bytes.{Bytes}
+use Rattle.zk_records.specs.declared.create.CreateRequest.{CreateRequest}
+use Rattle.zk_records.specs.declared.set_watches.SetWatches.{SetWatches}
+use Rattle.zk_messages.specs.declared.request.Op.{Op}
 use Rattle.zk_records.specs.declared.node.DeleteRequest.{DeleteRequest}
 use Rattle.zk_records.specs.declared.node.PathOnly.{PathOnly}
 use Rattle.zk_records.specs.declared.node.SetContentRequest.{SetContentRequest}
@@ -20,7 +24,7 @@ use Rattle.tree_state.specs.State.{State, Watch, left_of_others, session_at, wit
 use Rattle.tree_state.specs.Commands.{Command, Asks, IsTextOf, refused, single, multi, set_acl, stat_at, get_content, get_acl, get_children, sync, ping, set_watches, close, create, delete, set_content, check}
 use Rattle.tree_state.specs.Changes.{Naming, Effects, perform, all_deleted}
 use Rattle.tree_state.specs.Step.{Answer, answer, answer_single, told_only, closed, ended, watches_gone, connection_at}
-use Rattle.tree_state.specs.Trees.{Means, Answers, Tells, IsServed}
+use Rattle.tree_state.specs.Trees.{Means, Answers, Tells, IsServed, IsOther}
 use Rattle.tree_state.proofs.Alone.{told_answers}
 use Rattle.tree_state.proofs.Ended.{all_deleted_is}
 
@@ -196,3 +200,28 @@ serve_close naming at c s h before command m a n =
     subst (λ (x : Command). Answers s (answer naming at c s x) h (Ok outcomes.Empty)) (sym (asks_close command a))
       (refl, ap (λ (x : Effects). x.events) is,
       subst (λ (ws : List Watch). Means h (record e.state { sessions = without_session at.session e.state.sessions; watches = ws })) (none_go (connection_at (session_at at.session e.state.sessions)) c e.state.watches bare) n)
+
+-- ---- requests that no row is asked for
+
+pub not_create : (r : Request) (x : CreateRequest) → r ≡ requests.Create x → IsOther r → ⊥
+unfolding IsOther
+not_create r x e h = subst IsOther e h
+
+pub not_multi : (r : Request) (x : List Op) → r ≡ requests.Multi x → IsServed r → ⊥
+unfolding IsServed
+not_multi r x e h = subst IsServed e h
+
+pub not_watches : (r : Request) (x : SetWatches) → r ≡ requests.SetWatches x → IsServed r → ⊥
+unfolding IsServed
+not_watches r x e h = subst IsServed e h
+
+none_is_some : {A : Type 0} (a : A) → None ≡ Some a → ⊥
+none_is_some a h = absurd cc
+
+pub not_auth : (r : Request) (x : Bytes) → r ≡ requests.Auth x → Refuses r None → ⊥
+unfolding Refuses
+not_auth r x e h = none_is_some _ (subst (λ (q : Request). Refuses q None) e h)
+
+pub not_unknown : (r : Request) (k : ℤ) (x : Bytes) → r ≡ requests.Unknown k x → Refuses r None → ⊥
+unfolding Refuses
+not_unknown r k x e h = none_is_some _ (subst (λ (q : Request). Refuses q None) e h)
