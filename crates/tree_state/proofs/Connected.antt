@@ -4,7 +4,6 @@ use Rattle.std.specs.BTreeMap.{get}
 use Rattle.std.specs.Int.Signed.{≤ℤ_refl, clash_ℤ}
 use Rattle.std.specs.Map.{lookup}
 use Rattle.std.specs.Option.{option_and}
-use Rattle.std.proofs.lemmas.Bool.{cases_Bool}
 use Rattle.std.proofs.lemmas.Int.{ints}
 use Rattle.std.proofs.lemmas.List.Elements.{All-nil, All-cons, All-head, All-tail}
 use Rattle.zk_records.specs.declared.connect.ConnectRequest.{ConnectRequest}
