@@ -136,7 +136,7 @@ all_gone_plain z (p ∷ ps) es xs g l =
     ap (then_deleted z ps) (one_deleted z p es xs g l)
     ∙ ap (λ (more : Effects). record { state = more.state; results = []; events = more.events }) (all_gone_plain z ps (without z p es) xs g z)
 
-all_deleted_is : (z : ℤ) (ps : List Path) (s : State) → s.watches ≡ []
+pub all_deleted_is : (z : ℤ) (ps : List Path) (s : State) → s.watches ≡ []
     → all_deleted z ps s ≡ record { state = record { nodes = all_gone z ps s.nodes; sessions = s.sessions; watches = []; greatest = s.greatest; last = z }; results = []; events = [] }
 all_deleted_is z ps s h =
     ap (λ (ws : List Watch). all_deleted z ps (record { nodes = s.nodes; sessions = s.sessions; watches = ws; greatest = s.greatest; last = s.last })) h
