@@ -1,13 +1,17 @@
 -- Each end of each change over what is held.
 use Rattle.std.proofs.Common.{◌≡◌, ◌≤◌, ◌<◌, ℕ, ℤ, Bool, true, false, cond, not, List, [], ◌∷◌, ◌++◌, Option, Some, None, Result, Ok, Err, length, refl, sym, ap, subst, ◌∙◌, inl, inr, arith, nat_eq, w32, w64, of_z, to_z}
-use Rattle.std.specs.Prelude.{◌+◌, ◌≤ℤ◌, ◌==◌, ◌||◌, pos, negsuc, min, nat_le, All}
+use Rattle.std.specs.Prelude.{is_some, ◌+◌, ◌≤ℤ◌, ◌==◌, ◌||◌, pos, negsuc, min, nat_le, All}
 use Rattle.std.specs.Ordering.{int_eq}
-use Rattle.std.specs.Result.{IsErrAnd}
+use Rattle.std.specs.Option.{option_copied}
+use Rattle.std.specs.Borrow.{Bor}
+use Rattle.std.specs.Int.Signed.{<ℤ-≤ℤ_trans, clash_ℤ}
+use Rattle.std.specs.Result.{IsErrAnd, is_err, OnErr, OnOk}
 use Rattle.std.proofs.lemmas.Result.{err_from_is_err_and}
 use Rattle.std.proofs.lemmas.Bool.{cases_Bool, leb-true, le-leb, eqb-true}
-use Rattle.std.proofs.lemmas.Bool.Decides.{Decides-eqb}
+use Rattle.std.proofs.lemmas.List.Elements.{All-nil}
+use Rattle.std.proofs.lemmas.Bool.Decides.{Decides-eqb, leb_tells}
 use Rattle.std.specs.Int.RustNames.{FitsSigned}
-use Rattle.std.proofs.lemmas.Int.{to_z-of_z}
+use Rattle.std.proofs.lemmas.Int.{to_z-of_z, by_lt_z}
 use Rattle.zk_path.specs.Paths.{text_of}
 use Rattle.zk_records.specs.declared.stat.Stat.{Stat}
 use Rattle.zk_messages.specs.declared.reply.OpResult.{OpResult}
@@ -22,17 +26,18 @@ use Rattle.tree_state.specs.declared.node.Node as code
 use Rattle.tree_state.specs.declared.places.Places.{Places}
 use Rattle.tree_state.specs.declared.session.Sessions.{Sessions}
 use Rattle.tree_state.specs.Commands.{IsTextOf, create, delete, set_content, set_acl}
-use Rattle.tree_state.specs.Nodes.{Path, Node, Place, above, find, is_there, change, add, remove, children, has_children, ephemerals, stat_of, size_of, greatest_int}
-use Rattle.tree_state.specs.State.{State, Watch, told, left, on_data, on_children, start_at}
+use Rattle.tree_state.specs.Nodes.{Path, Node, Place, above, same_path, find, is_there, change, add, remove, name_of_child, name_under, children, has_children, ephemerals, stat_of, size_of, greatest_int}
+use Rattle.tree_state.specs.State.{State, Session, Watch, told, left, on_data, on_children, start_at, first_numbers}
 use Rattle.tree_state.specs.Changes.{Trial, failed, done, Naming, Effect, perform, has_owner, is_at_last, is_other_version, name_for, fresh_numbers, with_creation, with_deletion, with_content, with_acl, created, deleted, updated, events_to, no_node, bad_version, not_empty, node_exists, no_children_for_ephemerals, system_error}
 use Rattle.tree_state.specs.Step.{Answer, answer, with_error, told_only}
 use Rattle.tree_state.specs.Sessions.{Keeps, Owning, with_owned, without_owned}
 use Rattle.tree_state.specs.Places.{node_of, kept_stat, IsSmall, IsNodeAt, IsFound, IsApart, Holds, content_limit}
 use Rattle.tree_state.specs.Trees.{AreOwned, IsGiven, Means, Answers, IsParent, MayCreate, IsMoment, Performs, IsShortContent}
-use Rattle.tree_state.proofs.Found.{found_there, there_changed, absent_found, find_changed-same, children_changed}
+use Rattle.tree_state.proofs.Found.{there_found, found_there, there_changed, absent_found, find_changed-same, children_changed}
+use Rattle.tree_state.proofs.ChildNames.{no_children}
 use Rattle.tree_state.proofs.Reading.{absent, present, count_names, stat_is}
 use Rattle.tree_state.proofs.Rows.{create_missing, create_owned, create_full, create_there, create_done, delete_missing, delete_other, delete_filled, delete_done, set_content_missing, set_content_other, set_content_last, set_content_done, set_acl_missing, set_acl_other, set_acl_last, set_acl_done}
-use Rattle.tree_state.proofs.Owned.{KeepsOwner, others, same_number, equal_numbers, other_number, number_flips, ephemerals_changed, ephemerals_added-own, ephemerals_added-other, ephemerals_removed, ephemerals_removed-other, none_owned, keeps_same, at_each, owned_changed, owned_added, owned_removed, given_so}
+use Rattle.tree_state.proofs.Owned.{KeepsOwner, others, same_number, equal_numbers, other_number, number_flips, ephemerals_changed, ephemerals_added-own, ephemerals_added-other, ephemerals_removed, ephemerals_removed-other, none_owned, owned_undone, keeps_same, at_each, owned_changed, owned_added, owned_removed, given_so}
 
 -- ---- tests
 
@@ -76,6 +81,9 @@ full_so k h = le-leb greatest_int k h
 room_so : (k : ℕ) → k < greatest_int → is_at_last k ≡ false
 unfolding is_at_last
 room_so k h = elim (cases_Bool (nat_le greatest_int k)) [ inl t ↦ let l = leb-true greatest_int k t in absurd (omega arith) | inr t ↦ t ]
+
+low_so : (k : ℕ) → is_at_last k ≡ false → k < greatest_int
+low_so k h = elim (leb_tells greatest_int k) [ inl t ↦ let l = full_so k t.1 in absurd cc | inr t ↦ t.1 ]
 
 -- ---- what may be created
 
@@ -324,3 +332,205 @@ acl_set naming at c s p v h after text n stat m t f o low holds same last told =
     let means : Means after u = changed_means h after s p with_acl s.watches at.zxid with_acl_keeps m (holds s.nodes p (node_of n) m.places t found low) same m.watches last in
     let e = changed_stat s u p with_acl (node_of n) stat refl found (λ there. told u p (with_acl (node_of n)) means t there) in
     answers_only s u _ after (outcomes.Stat stat) (outcomes.Stat (stat_of s.nodes p (with_acl (node_of n)))) (set_acl_done naming at c s p v (node_of n) found o (room_so n.numbers.aversion low)) (ap outcomes.Stat e) means
+
+-- ---- the start
+
+root_free : (creations : ℕ) (p : Path) (n : Node) → find (start_at creations).nodes p ≡ Some n → n.numbers.owner ≡ pos 0
+unfolding start_at first_numbers find same_path
+root_free creations [] n h =
+    let same : record { content = None; numbers = first_numbers creations } ≡ n = cc in
+    subst (λ (x : Node). x.numbers.owner ≡ pos 0) same refl
+root_free creations (m ∷ p) n h = absurd cc
+
+alone_owned : (creations : ℕ) → AreOwned (start_at creations)
+unfolding start_at has_children children name_of_child name_under
+alone_owned creations = record {
+  given = λ p n at_p. subst (λ (z : ℤ). z ≤ℤ pos 0) (sym (root_free creations p n at_p)) (record { le = tt });
+  childless = λ p n at_p owned. refl;
+  free = λ n at_root. root_free creations [] n at_root;
+}
+
+pub start_means : (h : Held) (creations : ℕ) → Holds h.places (start_at creations).nodes → ((owned : Owning) → Keeps h.sessions [] owned) → h.last ≡ pos 0 → Means h (start_at creations)
+unfolding start_at
+start_means h creations holds keeps last = record {
+  places = holds;
+  sessions = keeps (λ k. ephemerals k (start_at creations).nodes);
+  owners = alone_owned creations;
+  numbers = All-nil (IsGiven (start_at creations));
+  watches = refl;
+  last = last;
+}
+
+-- ---- create
+
+-- a session did not come to own one more
+pub owning_failed : (h after : Held) (s : State) → Means h s → ((xs : List Session) (owned : Owning) → Keeps h.sessions xs owned → Keeps after.sessions xs owned) → after.places ≡ h.places → after.last ≡ h.last → Means after s
+owning_failed h after s m keeps same last = record {
+  places = subst (λ (t : Places). Holds t s.nodes) (sym same) m.places;
+  sessions = keeps s.sessions (λ k. ephemerals k s.nodes) m.sessions;
+  owners = m.owners;
+  numbers = m.numbers;
+  watches = m.watches;
+  last = last ∙ m.last;
+}
+
+-- what holds where there was an error, and where there was none
+pub err_holds : {T E P : Type 0} (r : Result T E) → true ≡ is_err r → OnErr r P → P
+err_holds (Ok x) e h = absurd cc
+err_holds (Err x) e h = h
+
+pub ok_holds : {T E P : Type 0} (r : Result T E) → false ≡ is_err r → OnOk r P → P
+ok_holds (Ok x) e h = h
+ok_holds (Err x) e h = absurd cc
+
+-- where a node is found, one is there
+pub found_so : (es : List Place) (p : Path) (o : Option (Bor code.Node)) (b : Bool) → IsFound es p (option_copied o) → is_some o ≡ b → is_there es p ≡ b
+unfolding IsFound
+found_so es p None b f e = there_found p es ∙ ap is_some f ∙ e
+found_so es p (Some n) b f e = there_found p es ∙ ap is_some f.plain ∙ e
+
+pub create_exists : (naming : Naming) (at : Moment) (s : State) (p : Path) (n m : List ℕ) (d : Option (List ℕ)) (q e : Bool) (up : Node) (h : Held) (o : Option (Bor code.Node)) → Means h s → IsParent s p up
+    → name_for naming p n q up ≡ Some m → IsFound s.nodes (m ∷ p) (option_copied o) → true ≡ is_some o → Performs s (perform naming at s (create p n d q e)) h (Err (stops.Refused node_exists))
+create_exists naming at s p n m d q e up h o means parent named f there =
+    refused_by s _ h node_exists means (create_there naming at s p n m d q e up parent named (found_so s.nodes (m ∷ p) o true f (sym there)))
+
+-- the session of a new ephemeral comes to own it, and nothing else changes
+pub record Joins (h mid : Held) (session : ℤ) (text : List ℕ) (ephemeral : Bool) : Type 0 where
+  pub places : mid.places ≡ h.places
+  pub last : mid.last ≡ h.last
+  pub owns : (xs : List Session) (owned : Owning) (p : Path) → Keeps h.sessions xs owned → IsTextOf text p → Keeps mid.sessions xs (cond ephemeral (with_owned session p owned) owned)
+
+-- and goes out of its hands again
+pub record Leaves (mid after : Held) (left : Places) (session : ℤ) (text : List ℕ) (ephemeral : Bool) : Type 0 where
+  pub places : after.places ≡ left
+  pub last : after.last ≡ mid.last
+  pub owns : (xs : List Session) (owned : Owning) (p : Path) → Keeps mid.sessions xs owned → IsTextOf text p → Keeps after.sessions xs (cond ephemeral (without_owned session p owned) owned)
+
+pub no_join : (h mid : Held) (session : ℤ) (text : List ℕ) (e : Bool) → e ≡ false → mid ≡ record { places = h.places; sessions = h.sessions; last = h.last } → Joins h mid session text e
+no_join h mid session text e off same = subst (λ (x : Held). Joins h x session text e) (sym same) (subst (Joins h h session text) (sym off) (record { places = refl; last = refl; owns = λ xs owned p keeps t. keeps }))
+
+pub join : (h mid : Held) (j session : ℤ) (text : List ℕ) (e : Bool) (sessions : Sessions) → e ≡ true → j ≡ session → mid ≡ record { places = h.places; sessions = sessions; last = h.last }
+    → ((xs : List Session) (owned : Owning) (p : Path) → Keeps h.sessions xs owned → IsTextOf text p → Keeps sessions xs (with_owned j p owned)) → Joins h mid session text e
+join h mid j session text e sessions on same is own =
+    let after : Held = record { places = h.places; sessions = sessions; last = h.last } in
+    subst (λ (x : Held). Joins h x session text e) (sym is)
+    (subst (λ (z : ℤ). Joins h after z text e) same (subst (Joins h after j text) (sym on) (record { places = refl; last = refl; owns = own })))
+
+pub leave_none : (mid after : Held) (session : ℤ) (text : List ℕ) (e : Bool) (places : Places) → e ≡ false → after ≡ record { places = places; sessions = mid.sessions; last = mid.last }
+    → Leaves mid after places session text e
+leave_none mid after session text e places off is =
+    let left : Held = record { places = places; sessions = mid.sessions; last = mid.last } in
+    subst (λ (x : Held). Leaves mid x places session text e) (sym is)
+    (subst (Leaves mid left places session text) (sym off) (record { places = refl; last = refl; owns = λ xs owned p keeps t. keeps }))
+
+pub leave : (mid after : Held) (j session : ℤ) (text : List ℕ) (e : Bool) (places : Places) (sessions : Sessions) → e ≡ true → j ≡ session → after ≡ record { places = places; sessions = sessions; last = mid.last }
+    → ((xs : List Session) (owned : Owning) (p : Path) → Keeps mid.sessions xs owned → IsTextOf text p → Keeps sessions xs (without_owned j p owned)) → Leaves mid after places session text e
+leave mid after j session text e places sessions on same is disown =
+    let left : Held = record { places = places; sessions = sessions; last = mid.last } in
+    subst (λ (x : Held). Leaves mid x places session text e) (sym is)
+    (subst (λ (z : ℤ). Leaves mid left places z text e) same (subst (Leaves mid left places j text) (sym on) (record { places = refl; last = refl; owns = disown })))
+
+-- a node was not added: all is as it was
+undone_so : (e : Bool) (session k : ℤ) (p : Path) (es : List Place) → is_there es p ≡ false
+    → cond e (without_owned session p (cond e (with_owned session p (λ j. ephemerals j es)) (λ j. ephemerals j es))) (cond e (with_owned session p (λ j. ephemerals j es)) (λ j. ephemerals j es)) k ≡ ephemerals k es
+undone_so true session k p es vacant = owned_undone k session p es vacant
+undone_so false session k p es vacant = refl
+
+pub not_added : (h mid after : Held) (places : Places) (s : State) (session : ℤ) (text : List ℕ) (e : Bool) (p : Path) → Means h s → IsTextOf text p → is_there s.nodes p ≡ false → Joins h mid session text e → Leaves mid after places session text e
+    → ((es : List Place) → Holds mid.places es → Holds places es) → Means after s
+not_added h mid after places s session text e p m t vacant joins leaves holds =
+    let own : Owning = λ k. ephemerals k s.nodes in
+    let both : Owning = cond e (with_owned session p own) own in
+    record {
+      places = subst (λ (u : Places). Holds u s.nodes) (sym leaves.places) (holds s.nodes (subst (λ (u : Places). Holds u s.nodes) (sym joins.places) m.places));
+      sessions = keeps_same after.sessions s.sessions (cond e (without_owned session p both) both) own
+          (at_each s (cond e (without_owned session p both) both) own s.sessions m.numbers (λ k above. undone_so e session k p s.nodes vacant))
+          (leaves.owns s.sessions both p (joins.owns s.sessions own p m.sessions t) t);
+      owners = m.owners;
+      numbers = m.numbers;
+      watches = m.watches;
+      last = leaves.last ∙ joins.last ∙ m.last;
+    }
+
+with_creation_keeps : (z : ℤ) → KeepsOwner (with_creation z)
+unfolding with_creation
+with_creation_keeps z n = refl
+
+-- a new node belongs to the session that made it, if it is ephemeral
+owned_more : (k : ℤ) (at : Moment) (q p : Path) (d : Option (List ℕ)) (e : Bool) (z : ℤ) (es : List Place) → pos 1 ≤ℤ k
+    → cond e (with_owned at.session q (λ j. ephemerals j es)) (λ j. ephemerals j es) k ≡ ephemerals k (add q (record { content = d; numbers = fresh_numbers at e }) (change p (with_creation z) es))
+unfolding with_owned fresh_numbers
+owned_more k at q p d true z es above =
+    let node : Node = record { content = d; numbers = fresh_numbers at true } in
+    let same = sym (ephemerals_changed k p (with_creation z) es (with_creation_keeps z)) in
+    elim (cases_Bool (int_eq k at.session)) [
+      | inl i ↦
+          ap (λ (b : Bool). cond b (ephemerals k es ++ q ∷ []) (ephemerals k es)) i ∙ ap (λ (l : List Path). l ++ q ∷ []) same
+          ∙ sym (ephemerals_added-own k q node (change p (with_creation z) es) (same_number at.session k (sym (equal_numbers k at.session i))))
+      | inr i ↦
+          ap (λ (b : Bool). cond b (ephemerals k es ++ q ∷ []) (ephemerals k es)) i ∙ same
+          ∙ sym (ephemerals_added-other k q node (change p (with_creation z) es) (number_flips k at.session i))
+    ]
+owned_more k at q p d false z es above =
+    let node : Node = record { content = d; numbers = fresh_numbers at false } in
+    let far : int_eq (pos 0) k ≡ false = other_number (pos 0) k (λ e. let l = subst (λ (j : ℤ). pos 1 ≤ℤ j) (sym e) above in absurd l.le) in
+    sym (ephemerals_added-other k q node (change p (with_creation z) es) far ∙ ephemerals_changed k p (with_creation z) es (with_creation_keeps z))
+
+not_below : (a z : ℤ) → pos 1 ≤ℤ a → a ≤ℤ z → pos 0 ≤ℤ z
+not_below a z low high = by_lt_z z (pos 0) (λ below. clash_ℤ (<ℤ-≤ℤ_trans (<ℤ-≤ℤ_trans below (record { le = tt })) low) high) (λ h. h)
+
+fresh_given : (s : State) (at : Moment) (e : Bool) → IsMoment s at → (fresh_numbers at e).owner ≤ℤ s.greatest
+unfolding fresh_numbers
+fresh_given s at true mo = mo.given
+fresh_given s at false mo = not_below at.session s.greatest mo.positive mo.given
+
+no_create_watch : (at : Moment) (p : Path) (m : List ℕ) (n : Node) (s : State) → s.watches ≡ [] → ((created at p m n s).events ≡ []) × ((created at p m n s).state.watches ≡ [])
+unfolding created told left events_to
+no_create_watch at p m n s none = (ap (λ (ws : List Watch). (created at p m n (record s { watches = ws })).events) none, ap (λ (ws : List Watch). (created at p m n (record s { watches = ws })).state.watches) none)
+
+made_means : (h mid after : Held) (at : Moment) (s : State) (text : List ℕ) (p : Path) (m : List ℕ) (up : Node) (d : Option (List ℕ)) (e : Bool) → Means h s → IsMoment s at → IsTextOf text (m ∷ p) → IsParent s p up → is_there s.nodes (m ∷ p) ≡ false
+    → Joins h mid at.session text e → after.sessions ≡ mid.sessions → Holds after.places (add (m ∷ p) (record { content = d; numbers = fresh_numbers at e }) (change p (with_creation at.zxid) s.nodes)) → after.last ≡ at.zxid
+    → Means after (created at p m (record { content = d; numbers = fresh_numbers at e }) s).state
+unfolding created with_creation
+made_means h mid after at s text p m up d e means mo t parent vacant joins same holds last =
+    let own : Owning = λ k. ephemerals k s.nodes in
+    let f = with_creation at.zxid in
+    let node : Node = record { content = d; numbers = fresh_numbers at e } in
+    let u : State = (created at p m node s).state in
+    let then : Owning = λ k. ephemerals k u.nodes in
+    let ours : Owning = cond e (with_owned at.session (m ∷ p) own) own in
+    let v : State = record s { nodes = change p f s.nodes } in
+    record {
+      places = holds;
+      sessions = keeps_same after.sessions s.sessions ours then (at_each s ours then s.sessions means.numbers (λ k above. owned_more k at (m ∷ p) p d e at.zxid s.nodes above))
+          (subst (λ (x : Sessions). Keeps x s.sessions ours) (sym same) (joins.owns s.sessions own (m ∷ p) means.sessions t));
+      owners = owned_added v m p node (f up) u.watches u.last (there_changed p (m ∷ p) f s.nodes ∙ vacant) (find_changed-same p f up s.nodes parent.there) (no_owner up parent.free) (fresh_given s at e mo)
+          (children_changed p (m ∷ p) f s.nodes ∙ no_children (m ∷ p) s.nodes means.places.rooted vacant) (owned_changed s p f s.watches s.last (with_creation_keeps at.zxid) means.owners);
+      numbers = given_so s u s.sessions refl means.numbers;
+      watches = (no_create_watch at p m node s means.watches).1;
+      last = last;
+    }
+
+created_so : (naming : Naming) (at : Moment) (s : State) (p : Path) (n m : List ℕ) (d : Option (List ℕ)) (q e : Bool) (up : Node) (after : Held) (made : List ℕ) → IsParent s p up → name_for naming p n q up ≡ Some m
+    → is_there s.nodes (m ∷ p) ≡ false → made ≡ text_of (m ∷ p) → s.watches ≡ [] → Means after (created at p m (record { content = d; numbers = fresh_numbers at e }) s).state
+    → Performs s (perform naming at s (create p n d q e)) after (Ok (results.Created made))
+unfolding created
+created_so naming at s p n m d q e up after made parent named vacant spelled none means =
+    let node : Node = record { content = d; numbers = fresh_numbers at e } in
+    performed s _ (created at p m node s) after (results.Created made) (create_done naming at s p n m d q e up parent named vacant) (ap results.Created spelled) (no_create_watch at p m node s none).0 means
+
+pub create_makes : (naming : Naming) (at : Moment) (s : State) (p : Path) (n m : List ℕ) (d c : Option (List ℕ)) (q e : Bool) (up : Node) (h mid after : Held) (text made : List ℕ) (o : Option (Bor code.Node))
+    → Means h s → IsTextOf text (m ∷ p) → IsMoment s at → IsParent s p up → name_for naming p n q up ≡ Some m → IsFound s.nodes (m ∷ p) (option_copied o) → false ≡ is_some o → IsShortContent d → c ≡ d → made ≡ text
+    → Joins h mid at.session text e → after.sessions ≡ mid.sessions → after.last ≡ at.zxid
+    → ((es : List Place) (k : List ℕ) (r : Path) (x : Node) → Holds mid.places es → IsTextOf text (k ∷ r) → is_there es (k ∷ r) ≡ false → find es r ≡ Some x → x.numbers.creations < greatest_int → size_of c ≤ content_limit
+      → Holds after.places (add (k ∷ r) (record { content = c; numbers = fresh_numbers at e }) (change r (with_creation at.zxid) es)))
+    → Performs s (perform naming at s (create p n d q e)) after (Ok (results.Created made))
+create_makes naming at s p n m d c q e up h mid after text made o means t mo parent named f there short copy spelled joins same last holds =
+    let vacant = found_so s.nodes (m ∷ p) o false f (sym there) in
+    let node : Node = record { content = d; numbers = fresh_numbers at e } in
+    let put : Holds after.places (add (m ∷ p) node (change p (with_creation at.zxid) s.nodes)) =
+    subst (λ (x : Option (List ℕ)). Holds after.places (add (m ∷ p) (record { content = x; numbers = fresh_numbers at e }) (change p (with_creation at.zxid) s.nodes))) copy
+    (holds s.nodes m p up (subst (λ (u : Places). Holds u s.nodes) (sym joins.places) means.places) t vacant parent.there (low_so up.numbers.creations parent.room)
+    (subst (λ (x : Option (List ℕ)). size_of x ≤ content_limit) (sym copy) (short_content d short))) in
+    created_so naming at s p n m d q e up after made parent named vacant (spelled ∙ t.spelled) means.watches
+    (made_means h mid after at s text p m up d e means mo t parent vacant joins same put last)

@@ -17,6 +17,9 @@ pub mod Root
 pub mod Copied
 pub mod Rows
 pub mod Reading
+pub mod Owned
+pub mod Changed
+pub mod Alone
 mod SessionLists
 mod SessionMaps
 mod SessionTies
@@ -25,7 +28,6 @@ mod SessionsGiven
 mod SessionsKept
 mod SessionsMoved
 mod SessionsOwning
-pub mod Owned
-pub mod Changed
+pub mod Serving
 mod Ended
 mod Connected

@@ -1,12 +1,12 @@
 //! What a tree holds, and the rows of the machine over it.
 
-ghost use Rattle.std.specs.Prelude.{◌≡◌, ◌≤◌, ◌<◌, ℕ, ℤ, List, [], ◌∷◌, Bool, false, Ok, Some, None, IfOk};
+ghost use Rattle.std.specs.Prelude.{◌≡◌, ◌≤◌, ◌<◌, ℕ, ℤ, List, [], ◌∷◌, Bool, false, Ok, Err, Some, None, IfOk};
 ghost use Rattle.tree_state.specs.declared.node.Moment.{Moment as At};
 ghost use Rattle.tree_state.specs.Commands.{Command, Asks, IsTextOf, stat_at, get_content, get_acl, get_children, set_acl, sync, create, delete, set_content};
 ghost use Rattle.tree_state.specs.Nodes.{Path, Node, find, has_children, ephemerals, stat_of, greatest_int};
 ghost use Rattle.tree_state.specs.State.{State, Session as PlainSession, session_at, start_at};
 ghost use Rattle.tree_state.specs.Changes.{Naming, Trial, Effect, perform, name_for, is_other_version, deleted, all_deleted};
-ghost use Rattle.tree_state.specs.Step.{answer, answer_single, ended};
+ghost use Rattle.tree_state.specs.Step.{answer, answer_single, outcome_of, ended};
 ghost use Rattle.tree_state.specs.declared.held.Held.{Held as PlainHeld};
 ghost use Rattle.tree_state.specs.Trees.{Means, Answers, Tells, Performs, MayCreate, IsParent, IsMoment, HasShortParts, IsShortContent, IsServed, IsOther};
 ghost use Rattle.zk_messages.specs.Refuses.{Refuses, open_acl};
@@ -92,7 +92,13 @@ impl Held {
                 self.end_session(alloc, at);
                 Ok(Outcome::Empty)
             }
-            _ => Ok(Outcome::Error { code: UNIMPLEMENTED }),
+            Request::Create(_)
+            | Request::Multi(_)
+            | Request::SetWatches(_)
+            | Request::Auth(_)
+            | Request::Unknown { .. } => Ok(Outcome::Error {
+                code: UNIMPLEMENTED,
+            }),
         }
     }
 
@@ -302,11 +308,31 @@ pub(crate) fn alone(change: Result<OpResult, NotDone>) -> Result<Outcome, Memory
     ensures { (s : State) (t : Trial ℤ Effect) (held : PlainHeld) → Performs s t held change → Answers s (answer_single s t) held result }
 {
     match change {
-        Ok(OpResult::Created(path)) => Ok(Outcome::Path(path)),
-        Ok(OpResult::Changed(stat)) => Ok(Outcome::Stat(stat)),
-        Ok(OpResult::Deleted | OpResult::Checked) => Ok(Outcome::Empty),
-        Ok(OpResult::Error { code }) | Err(NotDone::Refused { code }) => Ok(Outcome::Error { code }),
-        Err(NotDone::Memory) => Err(Memory),
+        Ok(result) => Ok(outcome(result)),
+        Err(stop) => stopped(stop),
+    }
+}
+
+// The outcome of a change that was not done.
+fn stopped(stop: NotDone) -> Result<Outcome, Memory>
+    ensures { (s : State) (t : Trial ℤ Effect) (held : PlainHeld) → Performs s t held (Err stop) → Answers s (answer_single s t) held result }
+{
+    match stop {
+        NotDone::Refused { code } => Ok(Outcome::Error { code }),
+        NotDone::Memory => Err(Memory),
+    }
+}
+
+// The outcome of a change that was done.
+#[tactic(auto, unfolding(crate::specs::Step::outcome_of))]
+fn outcome(done: OpResult) -> Outcome
+    ensures { result ≡ outcome_of done }
+{
+    match done {
+        OpResult::Created(path) => Outcome::Path(path),
+        OpResult::Deleted | OpResult::Checked => Outcome::Empty,
+        OpResult::Changed(stat) => Outcome::Stat(stat),
+        OpResult::Error { code } => Outcome::Error { code },
     }
 }
 
