@@ -1,33 +1,29 @@
--- What is held after a connect request, and after a connection is lost.
-use Rattle.std.proofs.Common.{◌≡◌, ◌⊎◌, ℕ, ℤ, ◌<ℤ◌, ◌≤ℤ◌, ◌+ℤ◌, pos, Bool, true, false, cond, List, [], ◌∷◌, ◌++◌, map, Option, Some, None, Result, Ok, Err, All, OnErr, int_cmp, int_eq, is_some, option_map, refl, sym, ap, ◌∙◌, subst, inl, inr, arith, FitsSigned, w64, to_z, of_z}
+-- What is read of a session, what a connect is answered, and what is held after it and after a connection is lost.
+use Rattle.std.proofs.Common.{◌≡◌, ◌⊎◌, ℕ, ℤ, ◌<ℤ◌, ◌≤ℤ◌, ◌+ℤ◌, ◌-◌, ◌^◌, pos, Bool, true, false, cond, List, [], ◌∷◌, ◌++◌, map, Option, Some, None, All, int_cmp, int_eq, is_some, option_map, refl, sym, ap, ◌∙◌, subst, inl, inr, arith, FitsSigned, w64, to_z, of_z}
 use Rattle.std.specs.BTreeMap.{get}
-use Rattle.std.specs.Cmp.{signed_Decides}
 use Rattle.std.specs.Int.Signed.{≤ℤ_refl, clash_ℤ}
 use Rattle.std.specs.Map.{lookup}
 use Rattle.std.specs.Option.{option_and}
-use Rattle.std.proofs.lemmas.Bool.{cases_Bool}
 use Rattle.std.proofs.lemmas.Int.{ints}
 use Rattle.std.proofs.lemmas.List.Elements.{All-nil, All-cons, All-head, All-tail}
-use Rattle.jute_core.specs.declared.held.Memory.{Memory}
 use Rattle.zk_records.specs.declared.connect.ConnectRequest.{ConnectRequest}
 use Rattle.tree_state.specs.declared.held.Held.{Held}
 use Rattle.tree_state.specs.declared.message.Message.TheVariants as messages
 use Rattle.tree_state.specs.declared.message.Output.{Output}
-use Rattle.tree_state.specs.declared.places.Places.{Places}
 use Rattle.tree_state.specs.declared.session.Given.{Given}
 use Rattle.tree_state.specs.declared.session.Session as code
 use Rattle.tree_state.specs.declared.session.Sessions.{Sessions}
-use Rattle.tree_state.specs.Nodes.{Path, Place, find, ephemerals}
+use Rattle.tree_state.specs.Nodes.{Path, ephemerals}
 use Rattle.tree_state.specs.State.{State, Session, Watch, session_at, session_of, changed_session, change_session, has_connection, moved_to, left_of_others, without_connection, is_numbered, next_zxid}
 use Rattle.tree_state.specs.Changes.{Naming}
-use Rattle.tree_state.specs.Step.{Act, connects, loses, step, connected, connected_at, with_session, with_moved, answer_connect, read_only_of, given_to, given_live, is_password_of, clamped, no_session, lost}
+use Rattle.tree_state.specs.Step.{connects, loses, step, connected, connected_at, with_session, with_moved, answer_connect, read_only_of, given_to, given_live, is_password_of, clamped, no_session, lost}
 use Rattle.tree_state.specs.Sessions.{Keeps, Owning, AreBelow, session_at_key}
-use Rattle.tree_state.specs.Places.{Holds}
 use Rattle.tree_state.specs.Trees.{Means, Does, Stays, CanConnect, AreOwned, IsGiven}
-use Rattle.tree_state.proofs.SessionLists.{number_of, same_number}
+use Rattle.tree_state.proofs.SessionLists.{number_of}
 use Rattle.tree_state.proofs.SessionMaps.{is_key, at_key}
 use Rattle.tree_state.proofs.SessionsKept.{kept_at}
-use Rattle.tree_state.proofs.Ended.{first_found}
+use Rattle.tree_state.proofs.Owned.{same_number, other_number}
+use Rattle.tree_state.proofs.Ended.{above_zero, first_found}
 
 -- ---- what is read of a session (j is a number as the code has it, and k the same in the clause)
 
@@ -72,16 +68,13 @@ at_most a b c h k = grind (arith, ints)
 below : (a b c : ℤ) → a ≤ℤ b → b <ℤ c → a <ℤ c
 below a b c h k = grind (arith, ints)
 
-above_zero : (a : ℤ) → pos 1 ≤ℤ a → a ≡ pos 0 → ⊥
-above_zero a h k = grind (arith, ints)
-
 no_more : (a b : ℤ) → a <ℤ b → a ≤ℤ b
 no_more a b h = grind (arith, ints)
 
 -- ---- who is given a session
 
 -- no session is given, or the next one, or one that is live
-abbrev pub IsGivenTo : List Session → ℤ → Given → Type 0
+abbrev IsGivenTo : List Session → ℤ → Given → Type 0
 IsGivenTo xs fresh g = (g.session ≡ pos 0) ⊎ ((g.session ≡ fresh) ⊎ ((x : Session) × (session_at g.session xs ≡ Some x)))
 
 given_so_far : (xs : List Session) (asked : ConnectRequest) (fresh : ℤ) (o : Option Session) → session_at asked.session xs ≡ o → IsGivenTo xs fresh (given_live asked o)
@@ -93,7 +86,7 @@ given_so_far xs asked fresh (Some x) live = go (is_password_of asked.password x)
     go true = inr (inr (x, subst (λ (k : ℤ). session_at k xs ≡ Some x) (sym (number_of asked.session xs x live)) live))
     go false = inl refl
 
-pub is_given_to : (xs : List Session) (asked : ConnectRequest) (fresh : ℤ) (password : List ℕ) → IsGivenTo xs fresh (given_to xs asked fresh password)
+is_given_to : (xs : List Session) (asked : ConnectRequest) (fresh : ℤ) (password : List ℕ) → IsGivenTo xs fresh (given_to xs asked fresh password)
 unfolding given_to
 is_given_to xs asked fresh password = go (int_eq asked.session (pos 0))
   where
@@ -110,17 +103,14 @@ is_next xs fresh g given some none = elim given [
 
 -- ---- the step
 
-not_zero : (k : ℤ) → (k ≡ pos 0 → ⊥) → int_eq k (pos 0) ≡ false
-not_zero k h = elim (cases_Bool (int_eq k (pos 0))) [ inl zero ↦ absurd (h (same_number k (pos 0) zero)) | inr other ↦ other ]
-
 nothing_given : (g : Given) (now : ℤ) (c : ℕ) (s : State) → g.session ≡ pos 0 → connected g now c s ≡ s
 unfolding connected
-nothing_given g now c s h = ap (λ (b : Bool). cond b s (connected_at (session_at g.session s.sessions) g now c s)) ((signed_Decides g.session (pos 0)).1 h)
+nothing_given g now c s h = ap (λ (b : Bool). cond b s (connected_at (session_at g.session s.sessions) g now c s)) (same_number g.session (pos 0) h)
 
 given_at : (g : Given) (now : ℤ) (c : ℕ) (s : State) (o : Option Session) → (g.session ≡ pos 0 → ⊥) → session_at g.session s.sessions ≡ o → connected g now c s ≡ connected_at o g now c s
 unfolding connected
 given_at g now c s o some at =
-    ap (λ (b : Bool). cond b s (connected_at (session_at g.session s.sessions) g now c s)) (not_zero g.session some) ∙ ap (λ (x : Option Session). connected_at x g now c s) at
+    ap (λ (b : Bool). cond b s (connected_at (session_at g.session s.sessions) g now c s)) (other_number g.session (pos 0) some) ∙ ap (λ (x : Option Session). connected_at x g now c s) at
 
 connects_so : (naming : Naming) (s : State) (c : ℕ) (asked : ConnectRequest) (g : Given) (now : ℤ) (after : Held) (outputs : List Output)
     → outputs ≡ answer_connect c asked g ∷ [] → Means after (connected g now c s) → Does naming s (connects c asked g now) after outputs
@@ -164,7 +154,7 @@ connect_none naming s c asked g now before outputs means none sent =
     connects_so naming s c asked g now before outputs sent (subst (Means before) (sym (nothing_given g now c s none)) means)
 
 -- a live session moves
-pub connect_moved : (naming : Naming) (s : State) (c : ℕ) (asked : ConnectRequest) (g : Given) (now : ℤ) (before : Held) (sessions : Sessions) (last : ℤ) (x : Session) (outputs : List Output)
+connect_moved : (naming : Naming) (s : State) (c : ℕ) (asked : ConnectRequest) (g : Given) (now : ℤ) (before : Held) (sessions : Sessions) (last : ℤ) (x : Session) (outputs : List Output)
     → Means before s → (g.session ≡ pos 0 → ⊥) → session_at g.session s.sessions ≡ Some x → last ≡ before.last +ℤ pos 1 → outputs ≡ answer_connect c asked g ∷ []
     → Keeps sessions (with_moved g now c s.sessions) (λ session. ephemerals session s.nodes)
     → Does naming s (connects c asked g now) (with_sessions before sessions last) outputs
@@ -186,7 +176,7 @@ are_below s fresh (x ∷ xs) more h =
     All-cons (λ y. y.number <ℤ fresh) x xs (below x.number s.greatest fresh (All-head (IsGiven s) x xs h).within more) (are_below s fresh xs more (All-tail (IsGiven s) x xs h))
 
 -- a session that comes is above all others, and owns nothing
-pub next_is_new : (s : State) (fresh : ℤ) (before : Held) → Means before s → s.greatest <ℤ fresh → AreBelow fresh s.sessions × (ephemerals fresh s.nodes ≡ [])
+next_is_new : (s : State) (fresh : ℤ) (before : Held) → Means before s → s.greatest <ℤ fresh → AreBelow fresh s.sessions × (ephemerals fresh s.nodes ≡ [])
 next_is_new s fresh before means more = (are_below s fresh s.sessions more means.numbers, none_owned (ephemerals fresh s.nodes) refl)
   where
     none_owned : (ps : List Path) → ephemerals fresh s.nodes ≡ ps → ps ≡ []
@@ -197,13 +187,13 @@ next_is_new s fresh before means more = (are_below s fresh s.sessions more means
         clash_ℤ more low
 
 -- a session that is not live, and is given, is the next one
-pub opened_next : (naming : Naming) (s : State) (c : ℕ) (asked : ConnectRequest) (fresh : ℤ) (password : List ℕ) (g : Given)
+opened_next : (naming : Naming) (s : State) (c : ℕ) (asked : ConnectRequest) (fresh : ℤ) (password : List ℕ) (g : Given)
     → g ≡ given_to s.sessions asked fresh password → (g.session ≡ pos 0 → ⊥) → session_at g.session s.sessions ≡ None → g.session ≡ fresh
 opened_next naming s c asked fresh password g given some none =
     is_next s.sessions fresh g (subst (IsGivenTo s.sessions fresh) (sym given) (is_given_to s.sessions asked fresh password)) some none
 
 -- a new session comes
-pub connect_opened : (naming : Naming) (s : State) (c : ℕ) (asked : ConnectRequest) (g : Given) (now : ℤ) (before : Held) (sessions : Sessions) (last : ℤ) (outputs : List Output)
+connect_opened : (naming : Naming) (s : State) (c : ℕ) (asked : ConnectRequest) (g : Given) (now : ℤ) (before : Held) (sessions : Sessions) (last : ℤ) (outputs : List Output)
     → Means before s → pos 1 ≤ℤ g.session → s.greatest <ℤ g.session → session_at g.session s.sessions ≡ None → last ≡ before.last +ℤ pos 1 → outputs ≡ answer_connect c asked g ∷ []
     → Keeps sessions (with_session g now c s.sessions) (λ session. ephemerals session s.nodes)
     → Does naming s (connects c asked g now) (with_sessions before sessions last) outputs
@@ -226,10 +216,10 @@ connect_opened naming s c asked g now before sessions last outputs means positiv
         let first = All-head (IsGiven s) x xs h in
         All-cons (IsGiven u) x (xs ++ y ∷ []) (record { above = first.above; within = at_most x.number s.greatest u.greatest first.within more }) (all_given s u y more new xs (All-tail (IsGiven s) x xs h))
 
--- ---- the ends, from what the code finds
+-- ---- the ends, from what the code finds (j and timed are numbers as the code has them)
 
 -- the next zxid, as the code has it
-pub next_last : (a b : ℤ) → a ≡ b → FitsSigned w64 b → b <ℤ pos 9223372036854775807 → to_z w64 (of_z w64 (to_z w64 (of_z w64 a) +ℤ pos 1)) ≡ b +ℤ pos 1
+pub next_last : (a b : ℤ) → a ≡ b → FitsSigned w64 b → b <ℤ pos (2 ^ 63 - 1) → to_z w64 (of_z w64 (to_z w64 (of_z w64 a) +ℤ pos 1)) ≡ b +ℤ pos 1
 next_last a b same fits low = subst (λ (z : ℤ). to_z w64 (of_z w64 (to_z w64 (of_z w64 z) +ℤ pos 1)) ≡ b +ℤ pos 1) (sym same) (omega (arith, ints))
 
 -- a session that the test finds
@@ -247,24 +237,24 @@ found_none k xs h = go (session_at k xs) h
     go None i = refl
     go (Some x) i = absurd cc
 
-pub moved_so : (naming : Naming) (s : State) (c : ℕ) (asked : ConnectRequest) (g : Given) (now then : ℤ) (j last : ℤ) (before joined : Held) (sessions : Sessions) (outputs : List Output)
-    → Means before s → session_of c s.sessions ≡ None → (g.session ≡ pos 0 → ⊥) → j ≡ g.session → then ≡ now → true ≡ is_some (session_at j s.sessions) → outputs ≡ answer_connect c asked g ∷ []
+pub moved_so : (naming : Naming) (s : State) (c : ℕ) (asked : ConnectRequest) (g : Given) (now timed j last : ℤ) (before joined : Held) (sessions : Sessions) (outputs : List Output)
+    → Means before s → session_of c s.sessions ≡ None → (g.session ≡ pos 0 → ⊥) → j ≡ g.session → timed ≡ now → true ≡ is_some (session_at j s.sessions) → outputs ≡ answer_connect c asked g ∷ []
     → joined ≡ with_sessions before sessions before.last → last ≡ before.last +ℤ pos 1
-    → ((xs : List Session) (owned : Owning) (x : Session) → Keeps before.sessions xs owned → session_of c xs ≡ None → session_at g.session xs ≡ Some x → Keeps sessions (with_moved g then c xs) owned)
+    → ((xs : List Session) (owned : Owning) (x : Session) → Keeps before.sessions xs owned → session_of c xs ≡ None → session_at g.session xs ≡ Some x → Keeps sessions (with_moved g timed c xs) owned)
     → Does naming s (connects c asked g now) (with_sessions joined joined.sessions last) outputs
-moved_so naming s c asked g now then j last before joined sessions outputs means free some same at live sent join next moves =
+moved_so naming s c asked g now timed j last before joined sessions outputs means free some same at live sent join next moves =
     let found = found_live g.session s.sessions (subst (λ (k : ℤ). true ≡ is_some (session_at k s.sessions)) same live) in
     subst (λ (h : Held). Does naming s (connects c asked g now) (with_sessions h h.sessions last) outputs) (sym join)
     (connect_moved naming s c asked g now before sessions last found.0 outputs means some found.1 next sent
     (subst (λ (z : ℤ). Keeps sessions (with_moved g z c s.sessions) (λ session. ephemerals session s.nodes)) at
     (moves s.sessions (λ session. ephemerals session s.nodes) found.0 means.sessions free found.1)))
 
-pub opened_so : (naming : Naming) (s : State) (c : ℕ) (asked : ConnectRequest) (fresh : ℤ) (password : List ℕ) (g : Given) (now then : ℤ) (j last : ℤ) (before joined : Held) (sessions : Sessions) (outputs : List Output)
-    → Means before s → CanConnect s c fresh → g ≡ given_to s.sessions asked fresh password → (g.session ≡ pos 0 → ⊥) → j ≡ g.session → then ≡ now → false ≡ is_some (session_at j s.sessions)
+pub opened_so : (naming : Naming) (s : State) (c : ℕ) (asked : ConnectRequest) (fresh : ℤ) (password : List ℕ) (g : Given) (now timed j last : ℤ) (before joined : Held) (sessions : Sessions) (outputs : List Output)
+    → Means before s → CanConnect s c fresh → g ≡ given_to s.sessions asked fresh password → (g.session ≡ pos 0 → ⊥) → j ≡ g.session → timed ≡ now → false ≡ is_some (session_at j s.sessions)
     → outputs ≡ answer_connect c asked g ∷ [] → joined ≡ with_sessions before sessions before.last → last ≡ before.last +ℤ pos 1
-    → ((xs : List Session) (owned : Owning) → Keeps before.sessions xs owned → session_of c xs ≡ None → AreBelow g.session xs → owned g.session ≡ [] → Keeps sessions (with_session g then c xs) owned)
+    → ((xs : List Session) (owned : Owning) → Keeps before.sessions xs owned → session_of c xs ≡ None → AreBelow g.session xs → owned g.session ≡ [] → Keeps sessions (with_session g timed c xs) owned)
     → Does naming s (connects c asked g now) (with_sessions joined joined.sessions last) outputs
-opened_so naming s c asked fresh password g now then j last before joined sessions outputs means can given some same at absent sent join next opens =
+opened_so naming s c asked fresh password g now timed j last before joined sessions outputs means can given some same at absent sent join next opens =
     let none = found_none g.session s.sessions (subst (λ (k : ℤ). false ≡ is_some (session_at k s.sessions)) same absent) in
     let number = opened_next naming s c asked fresh password g given some none in
     let more = subst (λ (k : ℤ). s.greatest <ℤ k) (sym number) can.above in

@@ -1,9 +1,8 @@
 -- The nodes of a session that ends go one after another: what is there meanwhile, and at the end.
-use Rattle.std.proofs.Common.{◌≡◌, ℕ, ℤ, Bool, true, false, cond, not, List, [], ◌∷◌, ◌++◌, Option, Some, None, String, Global, string_bytes, map, filter, refl, sym, ap, subst, subst₂, ◌∙◌, inl, inr, int_eq}
+use Rattle.std.proofs.Common.{◌≡◌, ℕ, ℤ, Bool, true, false, cond, not, List, [], ◌∷◌, ◌++◌, Option, Some, None, String, Global, string_bytes, map, refl, sym, ap, subst, subst₂, ◌∙◌, inl, inr, int_eq}
 use Rattle.std.specs.Prelude.{All, pos, ◌≤ℤ◌, ◌+ℤ◌}
-use Rattle.std.specs.Cmp.{signed_Decides}
 use Rattle.std.specs.Int.Signed.{clash_ℤ}
-use Rattle.std.specs.List.{filter_map, cons_option, AllZip}
+use Rattle.std.specs.List.{cons_option, AllZip}
 use Rattle.std.proofs.lemmas.Bool.{cases_Bool}
 use Rattle.std.proofs.lemmas.List.Elements.{All-nil, All-cons, All-head, All-tail, All-filter}
 use Rattle.zk_messages.specs.declared.reply.OpResult.TheVariants as results
@@ -13,15 +12,15 @@ use Rattle.tree_state.specs.declared.places.Places.{Places}
 use Rattle.tree_state.specs.Nodes.{Path, Node, Place, above, same_path, find, is_there, change, is_elsewhere, remove, has_children, path_if_owned, ephemerals}
 use Rattle.tree_state.specs.State.{State, Session, Watch, told, left, left_of_others, session_at, is_numbered, is_other_session, without_session, next_zxid}
 use Rattle.tree_state.specs.Commands.{IsTextOf}
-use Rattle.tree_state.specs.Changes.{Naming, Effect, Effects, with_deletion, events_to, is_not_in, deleted, all_deleted, no_effects}
-use Rattle.tree_state.specs.Step.{Act, expires, step, ended, expired, watches_gone, connection_at}
+use Rattle.tree_state.specs.Changes.{Naming, Effect, Effects, with_deletion, events_to, deleted, all_deleted, no_effects}
+use Rattle.tree_state.specs.Step.{expires, step, ended, expired, watches_gone, connection_at}
 use Rattle.tree_state.specs.Places.{IsApart, Holds}
 use Rattle.tree_state.specs.Sessions.{Keeps, Owning, OwnTexts}
 use Rattle.tree_state.specs.Trees.{Means, Does, AreOwned, IsGiven, IsMoment}
 use Rattle.tree_state.proofs.SamePaths.{same_path-true, same_path-from, same_path-sym, same_path-above}
-use Rattle.tree_state.proofs.Found.{found_there, find_changed-same, find_changed-other, children_changed, remove_absent, apart_changed}
+use Rattle.tree_state.proofs.Found.{found_there, find_changed-other, remove_absent, apart_changed}
 use Rattle.tree_state.proofs.SessionLists.{none_live, at_first, at_others, number_of}
-use Rattle.tree_state.proofs.Owned.{number_flips, ephemerals_changed, ephemerals_removed-other, keeps_same, owned_changed, owned_removed, given_so}
+use Rattle.tree_state.proofs.Owned.{equal_numbers, number_flips, ephemerals_changed, ephemerals_removed-other, keeps_same, owned_changed, owned_removed, given_so}
 
 -- ---- the first of a session's ephemerals
 
@@ -84,14 +83,14 @@ first_found k (e ∷ es) p ps apart own = elim (cases_Bool (int_eq e.node.number
   | inl i ↦
       let first = sym (owned_here k e es i) ∙ own in
       let here : e.path ≡ p = cc in
-      record { node = e.node; found = found_here e es p here; owner = (signed_Decides e.node.numbers.owner k).0 i }
+      record { node = e.node; found = found_here e es p here; owner = equal_numbers e.node.numbers.owner k i }
   | inr i ↦
       let later = first_found k es p ps (apart_rest e es apart) (sym (owned_behind k e es i) ∙ own) in
       record { node = later.node; found = found_behind e es p (elsewhere e es p later.node apart later.found) ∙ later.found; owner = later.owner }
 ]
 
 -- when it goes, the others are left
-pub first_goes : (k : ℤ) (es : List Place) (p : Path) (ps : List Path) → IsApart es → ephemerals k es ≡ p ∷ ps → ephemerals k (remove p es) ≡ ps
+first_goes : (k : ℤ) (es : List Place) (p : Path) (ps : List Path) → IsApart es → ephemerals k es ≡ p ∷ ps → ephemerals k (remove p es) ≡ ps
 first_goes k [] p ps apart own = absurd (none_first k p ps own)
 first_goes k (e ∷ es) p ps apart own = elim (cases_Bool (int_eq e.node.numbers.owner k)) [
   | inl i ↦
@@ -195,14 +194,15 @@ one_less : (z : ℤ) (p : Path) (ps : List Path) (es : List Place) → all_gone 
 unfolding all_gone
 one_less z p ps es = refl
 
-no_session : (session : ℤ) → pos 1 ≤ℤ session → session ≡ pos 0 → ⊥
-no_session session positive zero = clash_ℤ (record { lt = tt }) (subst (λ (k : ℤ). pos 1 ≤ℤ k) zero positive)
+-- a session is not session 0
+pub above_zero : (session : ℤ) → pos 1 ≤ℤ session → session ≡ pos 0 → ⊥
+above_zero session positive zero = clash_ℤ (record { lt = tt }) (subst (λ (k : ℤ). pos 1 ≤ℤ k) zero positive)
 
 one_goes : (z session : ℤ) (s : State) (t u : Places) (k : String Global) (ks : List (String Global)) (a : AreLeaving z session s t (k ∷ ks)) (n : List ℕ) (p : Path) (ps : List Path)
     → pos 1 ≤ℤ session → Removes z (string_bytes k) t u → ephemerals session a.nodes ≡ (n ∷ p) ∷ ps → IsTextOf (string_bytes k) (n ∷ p) → OwnTexts ks ps → AreLeaving z session s u ks
 one_goes z session s t u k ks a n p ps positive removes own named rest =
     let first = first_found session a.nodes (n ∷ p) ps a.holds.apart own in
-    let alone = a.owners.childless (n ∷ p) first.node first.found (λ zero. no_session session positive (sym first.owner ∙ zero)) in
+    let alone = a.owners.childless (n ∷ p) first.node first.found (λ zero. above_zero session positive (sym first.owner ∙ zero)) in
     let left = own_after z session n p a.nodes ps a.holds.apart own in
     record {
       nodes = without z (n ∷ p) a.nodes;
@@ -224,7 +224,7 @@ next_goes z session s t u k ks positive removes a = go (ephemerals session a.nod
     go [] own named = absurd named
     go ([] ∷ ps) own named =
         let first = first_found session a.nodes [] ps a.holds.apart own in
-        absurd (no_session session positive (sym first.owner ∙ a.owners.free first.node first.found))
+        absurd (above_zero session positive (sym first.owner ∙ a.owners.free first.node first.found))
     go ((n ∷ p) ∷ ps) own named = one_goes z session s t u k ks a n p ps positive removes own named.0 named.1
 
 -- ---- the end
@@ -291,7 +291,7 @@ live_given s k (y ∷ ys) x given live = elim (cases_Bool (is_numbered k y)) [
     some_same h = cc
 
 -- the moment at which a live session ends
-pub is_moment : (s : State) (x : Session) (session : ℤ) (before : Held) (at : Moment) → Means before s → session_at session s.sessions ≡ Some x
+is_moment : (s : State) (x : Session) (session : ℤ) (before : Held) (at : Moment) → Means before s → session_at session s.sessions ≡ Some x
     → at.zxid ≡ before.last +ℤ pos 1 → at.session ≡ session → IsMoment s at
 unfolding next_zxid
 is_moment s x session before at means live next same =

@@ -1,6 +1,6 @@
 //! How sessions come and go.
 
-ghost use Rattle.std.specs.Prelude.{◌≡◌, ◌<ℤ◌, ◌-◌, ◌^◌, ℕ, ℤ, List, [], ◌∷◌, pos, Some, IfOk, OnErr};
+ghost use Rattle.std.specs.Prelude.{◌≡◌, ◌<ℤ◌, ◌-◌, ◌^◌, [], ◌∷◌, pos, Some, IfOk, OnErr};
 ghost use Rattle.tree_state.specs.State.{State, Session as PlainSession, session_at};
 ghost use Rattle.tree_state.specs.Changes.{Naming};
 ghost use Rattle.tree_state.specs.Step.{connects, expires, loses, given_to, answer_connect as ConnectAnswer};
@@ -16,7 +16,15 @@ use zk_records::{ConnectRequest, ConnectResponse};
 
 impl Held {
     // A connect request: no session, a live one that moves, or a new one.
-    pub(crate) fn connect(&mut self, alloc: Global, now: i64, connection: u32, asked: &ConnectRequest, fresh: i64, password: [u8; 16]) -> Result<Outputs, Memory>
+    pub(crate) fn connect(
+        &mut self,
+        alloc: Global,
+        now: i64,
+        connection: u32,
+        asked: &ConnectRequest,
+        fresh: i64,
+        password: [u8; 16],
+    ) -> Result<Outputs, Memory>
         requires last { self.old.last <ℤ pos (2 ^ 63 - 1) }
         ensures step { IfOk result (λ outputs. (naming : Naming) (s : State) → Means self.old s → CanConnect s connection fresh
             → Does naming s (connects connection asked.now (given_to s.sessions asked.now fresh password) now) self.new outputs) }
@@ -59,7 +67,12 @@ impl Held {
 }
 
 // The answer to a connect request, in its form.
-fn answer_connect(alloc: Global, connection: u32, asked: &ConnectRequest, given: &Given) -> Result<Outputs, Memory>
+fn answer_connect(
+    alloc: Global,
+    connection: u32,
+    asked: &ConnectRequest,
+    given: &Given,
+) -> Result<Outputs, Memory>
     ensures { IfOk result (λ outputs. outputs ≡ ConnectAnswer connection asked.now given.now ∷ []) }
 {
     let password = Some(Bytes::copy_of(alloc, given.password.as_slice())?);
