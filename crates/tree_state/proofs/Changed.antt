@@ -1,6 +1,6 @@
 -- Each end of each change over what is held.
 use Rattle.std.proofs.Common.{◌≡◌, ◌≤◌, ◌<◌, ℕ, ℤ, Bool, true, false, cond, not, List, [], ◌∷◌, ◌++◌, Option, Some, None, Result, Ok, Err, length, refl, sym, ap, subst, ◌∙◌, inl, inr, arith, nat_eq, w32, w64, of_z, to_z}
-use Rattle.std.specs.Prelude.{is_some, ◌+◌, ◌≤ℤ◌, ◌==◌, ◌||◌, pos, negsuc, min, nat_le, All}
+use Rattle.std.specs.Prelude.{is_some, ◌+◌, ◌≤ℤ◌, ◌==◌, ◌||◌, pos, negsuc, min, nat_le}
 use Rattle.std.specs.Ordering.{int_eq}
 use Rattle.std.specs.Option.{option_copied}
 use Rattle.std.specs.Borrow.{Bor}
@@ -27,17 +27,17 @@ use Rattle.tree_state.specs.declared.places.Places.{Places}
 use Rattle.tree_state.specs.declared.session.Sessions.{Sessions}
 use Rattle.tree_state.specs.Commands.{IsTextOf, create, delete, set_content, set_acl}
 use Rattle.tree_state.specs.Nodes.{Path, Node, Place, above, same_path, find, is_there, change, add, remove, name_of_child, name_under, children, has_children, ephemerals, stat_of, size_of, greatest_int}
-use Rattle.tree_state.specs.State.{State, Session, Watch, told, left, on_data, on_children, start_at, first_numbers}
+use Rattle.tree_state.specs.State.{State, Session, Watch, told, left, on_data, start_at, first_numbers}
 use Rattle.tree_state.specs.Changes.{Trial, failed, done, Naming, Effect, perform, has_owner, is_at_last, is_other_version, name_for, fresh_numbers, with_creation, with_deletion, with_content, with_acl, created, deleted, updated, events_to, no_node, bad_version, not_empty, node_exists, no_children_for_ephemerals, system_error}
 use Rattle.tree_state.specs.Step.{Answer, answer, with_error, told_only}
 use Rattle.tree_state.specs.Sessions.{Keeps, Owning, with_owned, without_owned}
-use Rattle.tree_state.specs.Places.{node_of, kept_stat, IsSmall, IsNodeAt, IsFound, IsApart, Holds, content_limit}
+use Rattle.tree_state.specs.Places.{node_of, kept_stat, IsSmall, IsFound, IsApart, Holds, content_limit}
 use Rattle.tree_state.specs.Trees.{AreOwned, IsGiven, Means, Answers, IsParent, MayCreate, IsMoment, Performs, IsShortContent}
-use Rattle.tree_state.proofs.Found.{there_found, found_there, there_changed, absent_found, find_changed-same, children_changed}
+use Rattle.tree_state.proofs.Found.{there_found, there_changed, find_changed-same, children_changed}
 use Rattle.tree_state.proofs.ChildNames.{no_children}
 use Rattle.tree_state.proofs.Reading.{absent, present, count_names, stat_is}
 use Rattle.tree_state.proofs.Rows.{create_missing, create_owned, create_full, create_there, create_done, delete_missing, delete_other, delete_filled, delete_done, set_content_missing, set_content_other, set_content_last, set_content_done, set_acl_missing, set_acl_other, set_acl_last, set_acl_done}
-use Rattle.tree_state.proofs.Owned.{KeepsOwner, others, same_number, equal_numbers, other_number, number_flips, ephemerals_changed, ephemerals_added-own, ephemerals_added-other, ephemerals_removed, ephemerals_removed-other, none_owned, owned_undone, keeps_same, at_each, owned_changed, owned_added, owned_removed, given_so}
+use Rattle.tree_state.proofs.Owned.{KeepsOwner, others, same_number, equal_numbers, other_number, number_flips, ephemerals_changed, ephemerals_added-own, ephemerals_added-other, ephemerals_removed, ephemerals_removed-other, owned_undone, keeps_same, at_each, owned_changed, owned_added, owned_removed, given_so}
 
 -- ---- tests
 
@@ -152,9 +152,18 @@ changed_means h after s p f ws z keeps m holds same none last = record {
 stat_changed : (p q : Path) (f : Node → Node) (es : List Place) (n : Node) → stat_of (change p f es) q n ≡ stat_of es q n
 unfolding stat_of
 stat_changed p q f es n = ap (λ (l : ℕ). record {
-  czxid = n.numbers.czxid; mzxid = n.numbers.mzxid; ctime = n.numbers.ctime; mtime = n.numbers.mtime; version = pos n.numbers.version;
-  cversion = pos (min (n.numbers.creations + n.numbers.deletions) greatest_int); aversion = pos n.numbers.aversion; owner = n.numbers.owner;
-  length = pos (size_of n.content); children = pos l; pzxid = n.numbers.pzxid }) (ap length (children_changed p q f es))
+  czxid = n.numbers.czxid;
+  mzxid = n.numbers.mzxid;
+  ctime = n.numbers.ctime;
+  mtime = n.numbers.mtime;
+  version = pos n.numbers.version;
+  cversion = pos (min (n.numbers.creations + n.numbers.deletions) greatest_int);
+  aversion = pos n.numbers.aversion;
+  owner = n.numbers.owner;
+  length = pos (size_of n.content);
+  children = pos l;
+  pzxid = n.numbers.pzxid;
+}) (ap length (children_changed p q f es))
 
 -- the Stat of the node after its change
 changed_stat : (s u : State) (p : Path) (f : Node → Node) (n : Node) (stat : Stat) → u.nodes ≡ change p f s.nodes → find s.nodes p ≡ Some n → (find u.nodes p ≡ Some (f n) → stat ≡ stat_of u.nodes p (f n))
@@ -226,8 +235,8 @@ gone_means h after at s n p node owner m found own holds keeps last = record {
   sessions = keeps_same after.sessions s.sessions (without_owned owner (n ∷ p) (λ k. ephemerals k s.nodes)) (λ k. ephemerals k (remove (n ∷ p) (change p (with_deletion at.zxid) s.nodes)))
       (at_each s (without_owned owner (n ∷ p) (λ k. ephemerals k s.nodes)) (λ k. ephemerals k (remove (n ∷ p) (change p (with_deletion at.zxid) s.nodes))) s.sessions m.numbers
       (λ k above. owned_gone k owner (n ∷ p) s.nodes node m.places.apart found own
-        ∙ ap (others (n ∷ p)) (sym (ephemerals_changed k p (with_deletion at.zxid) s.nodes (with_deletion_keeps at.zxid)))
-        ∙ sym (ephemerals_removed k (n ∷ p) (change p (with_deletion at.zxid) s.nodes))))
+      ∙ ap (others (n ∷ p)) (sym (ephemerals_changed k p (with_deletion at.zxid) s.nodes (with_deletion_keeps at.zxid)))
+      ∙ sym (ephemerals_removed k (n ∷ p) (change p (with_deletion at.zxid) s.nodes))))
       keeps;
   owners = owned_removed (record s { nodes = change p (with_deletion at.zxid) s.nodes }) (n ∷ p) (deleted at.zxid (n ∷ p) s).state.watches at.zxid
       (owned_changed s p (with_deletion at.zxid) s.watches s.last (with_deletion_keeps at.zxid) m.owners);
@@ -523,7 +532,7 @@ pub create_makes : (naming : Naming) (at : Moment) (s : State) (p : Path) (n m :
     → Means h s → IsTextOf text (m ∷ p) → IsMoment s at → IsParent s p up → name_for naming p n q up ≡ Some m → IsFound s.nodes (m ∷ p) (option_copied o) → false ≡ is_some o → IsShortContent d → c ≡ d → made ≡ text
     → Joins h mid at.session text e → after.sessions ≡ mid.sessions → after.last ≡ at.zxid
     → ((es : List Place) (k : List ℕ) (r : Path) (x : Node) → Holds mid.places es → IsTextOf text (k ∷ r) → is_there es (k ∷ r) ≡ false → find es r ≡ Some x → x.numbers.creations < greatest_int → size_of c ≤ content_limit
-      → Holds after.places (add (k ∷ r) (record { content = c; numbers = fresh_numbers at e }) (change r (with_creation at.zxid) es)))
+    → Holds after.places (add (k ∷ r) (record { content = c; numbers = fresh_numbers at e }) (change r (with_creation at.zxid) es)))
     → Performs s (perform naming at s (create p n d q e)) after (Ok (results.Created made))
 create_makes naming at s p n m d c q e up h mid after text made o means t mo parent named f there short copy spelled joins same last holds =
     let vacant = found_so s.nodes (m ∷ p) o false f (sym there) in

@@ -15,7 +15,7 @@ use Rattle.tree_state.specs.Sessions.{Owning, session_at_key, OwnTexts, OwnsPath
 use Rattle.tree_state.specs.Places.{IsApart}
 use Rattle.tree_state.specs.Trees.{AreOwned, IsGiven}
 use Rattle.tree_state.proofs.SamePaths.{same_path-true, same_path-refl, same_path-above}
-use Rattle.tree_state.proofs.Found.{found_there, there_node, there_changed, find_changed-same, find_changed-other, children_changed, find_added-same, find_added-other, children_added-same, children_added-other, there_removed-same, find_removed-other, remove_absent}
+use Rattle.tree_state.proofs.Found.{found_there, there_node, there_changed, find_changed-same, find_changed-other, children_changed, find_added-same, find_added-other, children_added-other, there_removed-same, find_removed-other, remove_absent}
 
 -- a change that leaves a node with its owner
 abbrev pub KeepsOwner : (Node → Node) → Type 0

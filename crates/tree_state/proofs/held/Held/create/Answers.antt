@@ -1,4 +1,4 @@
-use Rattle.std.proofs.Common.{◌∷◌, ◌≡◌, ℤ, true, false, refl, sym, ap, ◌∙◌, rules, w32, w64}
+use Rattle.std.proofs.Common.{◌∷◌, ◌≡◌, false, refl, sym, rules, w64}
 use Rattle.std.specs.Int.RustNames.{FitsSigned}
 use Rattle.std.proofs.lemmas.Int.{to_z-of_z}
 use Rattle.tree_state.specs.Nodes.{is_there}
