@@ -31,3 +31,5 @@ mod SessionsOwning
 pub mod Serving
 mod Ended
 mod Connected
+pub mod Names
+pub mod Creating

@@ -1,6 +1,7 @@
 -- What is read of a node is what its row tells.
 use Rattle.std.proofs.Common.{◌≡◌, ℕ, suc, ℤ, Bool, true, false, cond, List, [], ◌∷◌, Option, Some, None, Result, Ok, Err, length, refl, sym, ap, subst, ◌∙◌, inl, inr, arith}
 use Rattle.std.specs.Prelude.{map, pos, min, ◌+◌}
+use Rattle.std.specs.Option.{option_map}
 use Rattle.std.specs.String.{string_bytes}
 use Rattle.std.proofs.lemmas.List.{length-map}
 use Rattle.zk_messages.specs.Refuses.{open_acl}
@@ -113,3 +114,21 @@ no_acl naming at c s p f = tells_error s _ _ (acl_missing naming at c s p (absen
 
 pub no_children : (naming : Naming) (at : Moment) (c : ℕ) (s : State) (p : Path) (b : Bool) → IsFound s.nodes p None → Tells s (answer naming at c s (get_children p false b)) (outcomes.Error no_node)
 no_children naming at c s p b f = tells_error s _ _ (children_missing naming at c s p b (absent s.nodes p f))
+
+-- ---- what is read at a path, or that nothing is there
+
+pub no_stat_at : (es : List Place) (p : Path) → IsFound es p None → None ≡ option_map (stat_of es p) (find es p)
+no_stat_at es p f = ap (option_map (stat_of es p)) (sym (absent es p f))
+
+pub stat_at_is : (es : List Place) (p : Path) (n : code.Node) (stat : Stat) → IsFound es p (Some n) → (IsSmall n → stat ≡ kept_stat n) → Some stat ≡ option_map (stat_of es p) (find es p)
+stat_at_is es p n stat f k =
+    let h = present es p n f in
+    ap Some (k h.small ∙ stat_is es p n h) ∙ ap (option_map (stat_of es p)) (sym h.plain)
+
+pub no_names_at : (es : List Place) (p : Path) → IsFound es p None → None ≡ option_map (λ (node : Node). child_names p es) (find es p)
+no_names_at es p f = ap (option_map (λ (node : Node). child_names p es)) (sym (absent es p f))
+
+pub names_at_is : (es : List Place) (p : Path) (n : code.Node) (names : List (List ℕ)) → IsFound es p (Some n) → names ≡ map string_bytes n.names.keys → Some names ≡ option_map (λ (node : Node). child_names p es) (find es p)
+names_at_is es p n names f e =
+    let h = present es p n f in
+    ap Some (e ∙ h.names) ∙ ap (option_map (λ (node : Node). child_names p es)) (sym h.plain)

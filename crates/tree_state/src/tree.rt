@@ -1,8 +1,9 @@
 //! The tree: the machine over what is held, with a numberer.
 
-ghost use Rattle.std.specs.Prelude.{◌≡◌, ◌<◌, ◌<ℤ◌, ◌≤ℤ◌, ◌↔◌, ◌-◌, ◌^◌, ℕ, List, [], pos, Bool, Option, Some, IfOk, OnErr, unsigned_abs};
+ghost use Rattle.std.specs.Prelude.{◌≡◌, ◌<◌, ◌<ℤ◌, ◌≤ℤ◌, ◌↔◌, ◌-◌, ◌^◌, ℕ, List, [], pos, Bool, Option, Some, IfOk, IsTrue, OnErr, unsigned_abs};
 ghost use Rattle.std.specs.Option.{option_map};
-ghost use Rattle.tree_state.specs.Commands.{Command, IsCommand, IsCreate, IsTextOf, single, create};
+ghost use Rattle.zk_messages.specs.Refuses.{IsSequential};
+ghost use Rattle.tree_state.specs.Commands.{Command, IsCommand, IsCreate, IsEphemeral, IsTextOf, single, create};
 ghost use Rattle.tree_state.specs.Nodes.{Path, find, child_names, stat_of, greatest_int};
 ghost use Rattle.tree_state.specs.State.{State, Session as PlainSession, start_at, session_of, session_at};
 ghost use Rattle.tree_state.specs.Changes.{Naming};
@@ -138,8 +139,11 @@ impl<N: Numberer + Drop> Tree<N> {
         let Some(path) = self.name(alloc, asked, creations)? else {
             return Ok(Outcome::Error { code: BAD_ARGUMENTS });
         };
-        let ephemeral = asked.flags == 1 || asked.flags == 3;
-        alone(self.held.create(alloc, path.as_str(), &asked.content, ephemeral, at))
+        let ephemeral = is_ephemeral(asked);
+        alone(
+            self.held
+                .create(alloc, path.as_str(), &asked.content, ephemeral, at),
+        )
     }
 
     // The path of a new node; None where the numberer has no name.
@@ -153,7 +157,7 @@ impl<N: Numberer + Drop> Tree<N> {
         ensures names { (stem : List ℕ) (number : ℕ) (text : List ℕ) → N.named self.new.numberer stem number text ↔ N.named self.old.numberer stem number text }
     {
         let path = asked.path.as_str();
-        if asked.flags != 2 && asked.flags != 3 {
+        if !is_sequential(asked) {
             return Ok(Some(Text::copy_of(alloc, path)?));
         }
         match self.numberer.number(alloc, path, creations as i32) {
@@ -204,7 +208,10 @@ impl<N: Numberer + Drop> Tree<N> {
     pub fn stat(&self, path: &str) -> Option<Stat>
         ensures { (s : State) (p : Path) → Means self.now.held s → IsTextOf path.now p → result ≡ option_map (stat_of s.nodes p) (find s.nodes p) }
     {
-        Some(self.held.places.find(path)?.stat())
+        match self.held.places.find(path) {
+            Some(node) => Some(node.stat()),
+            None => None,
+        }
     }
 
     /// The numberer. Takes no memory.
@@ -224,4 +231,18 @@ impl<N: Numberer + Drop> Tree<N> {
             None => Ok(None),
         }
     }
+}
+
+// Whether a number is asked for.
+fn is_sequential(asked: &CreateRequest) -> bool
+    ensures { IsTrue result ↔ IsSequential asked.now.flags }
+{
+    asked.flags == 2 || asked.flags == 3
+}
+
+// Whether the node will belong to its session.
+fn is_ephemeral(asked: &CreateRequest) -> bool
+    ensures { IsTrue result ↔ IsEphemeral asked.now.flags }
+{
+    asked.flags == 1 || asked.flags == 3
 }

@@ -19,7 +19,7 @@ returns-in-Err-clause-err c = λ es h.
 
 pub returns-clause-ok : goal.returns-clause-ok
 returns-clause-ok c = λ es n p up h spelled absent found low short.
-    let cut = c.parts.ensures n p spelled in
+    let cut = c.parts.ensures.path n p spelled in
     holds_added c.args.self.now (record { nodes = c.insert.new.self }) c.count_creation.new.self es c.args.path.now _ n p up c.in_ok-key.key c.in_ok-name.name _ c.args.at.now.zxid c.args.at.now c.args.ephemeral c.args.content
     h spelled cut.0 c.in_ok-key.ensures.ok (c.in_ok-name.ensures.ok ∙ cut.1)
     (fresh_value c.args.content c.fresh.result c.new.result c.args.at.now c.args.ephemeral c.fresh.ensures) c.new.ensures.empty
