@@ -9,7 +9,9 @@ use Rattle.zk_messages.specs.declared.request.Item.TheVariants.{Requests}
 use Rattle.zk_messages.specs.declared.request.Request.TheVariants.{Close}
 use Rattle.zk_messages.specs.Sent.{Items, Sent}
 use Rattle.world_core.specs.Messages.{Messages}
-use Rattle.world_core.specs.Step.{out}
+use Rattle.tree_state.specs.Step.{Act}
+use Rattle.world_core.specs.Plain.{plain}
+use Rattle.world_core.specs.Out.{out}
 use Rattle.world_core.specs.Order.{Legal}
 use Rattle.world_core.specs.Fill.{fill, sent_by_first}
 use Rattle.world_core.specs.Veiled.{Veiled, VeilsOrder}
@@ -55,12 +57,15 @@ pub record Headline (sent : List ℕ) (drained : ℕ) (order : List Entry) (rece
   pub no_frame : IsRest rest
   -- the order has an entry for each of these, and may be the order of a store
   pub each : length order ≡ length taken
-  pub legal : Legal passwords order
-  pub filled_legal : Legal passwords (fill order (sent_by_first items))
+  pub handed_acts : List Act
+  pub legal : Legal plain passwords order handed_acts
+  -- and so may the order with what the client sent, whose entries are these acts of the plain machine
+  pub acts : List Act
+  pub filled_legal : Legal plain passwords (fill order (sent_by_first items)) acts
   pub veils : VeilsOrder (fill order (sent_by_first items)) order
   pub at_start : AreAt (pos 0) order
-  -- the client received all that the plain machine sends it over that order
-  pub received_is : Messages (out (fill order (sent_by_first items)) 1) received
+  -- the client received all that the plain machine sends it over these acts
+  pub received_is : Messages (out plain acts 1) received
   -- the store was handed what was taken, veiled
   pub handed_is : Veiled taken handed
   -- and where all was drained, that is all that was sent

@@ -18,7 +18,7 @@ mod runs;
 
 pub use entry::{Entries, Entry};
 pub use form::NotFirst;
-pub use message::Message;
+pub use message::write_message;
 pub use runs::{FirstRun, first_run};
 
 #[cfg(test)]

@@ -1,0 +1,16 @@
+-- What the entries of an order are to the machine.
+use Rattle.std.specs.Prelude.{◌≡◌, List}
+use Rattle.std.specs.List.{AllZip}
+use Rattle.world_core.specs.declared.entry.Entry.{Entry}
+use Rattle.world_core.specs.declared.entry.Entry.TheVariants.{Connect, Take}
+use Rattle.tree_state.specs.Commands.{Command, IsCommand}
+use Rattle.tree_state.specs.Step.{Act, connects, asks}
+
+-- a connect request with what it was given, or what a request asks
+abbrev pub IsAct : Entry → Act → Type 0
+IsAct (Connect c asked session timeout password zxid now) act = act ≡ connects c asked (record { session = session; timeout = timeout; password = password }) now
+IsAct (Take c xid request zxid now) act = (command : Command) × IsCommand request command × (act ≡ asks c xid command now)
+
+-- entry by entry
+abbrev pub AreActs : List Entry → List Act → Type 0
+AreActs order acts = AllZip IsAct order acts
