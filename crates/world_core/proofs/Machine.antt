@@ -1,11 +1,12 @@
 -- A run of the plain machine over items of the first form.
-use Rattle.std.proofs.Common.{◌≡◌, ℕ, ℤ, pos, List, [], ◌∷◌, ◌++◌, length, Some, false, refl, inr, ◌∙◌, sym, ap, subst, arith}
+use Rattle.std.proofs.Common.{◌≡◌, ℕ, ℤ, pos, List, [], ◌∷◌, ◌++◌, length, false, refl, inr, ◌∙◌, sym, ap, subst, arith}
 use Rattle.std.specs.Prelude.{if◌then◌else◌, ◌≤ℤ◌, ◌==◌, codes}
 use Rattle.std.proofs.lemmas.Int.{ints}
 use Rattle.std.proofs.lemmas.List.Elements.{All-nil}
 use Rattle.zk_records.specs.declared.connect.ConnectRequest.{ConnectRequest}
 use Rattle.zk_records.specs.declared.path_watch.PathWatch.{PathWatch}
 use Rattle.world_core.specs.declared.entry.Entry.{Entry}
+use Rattle.zk_messages.specs.declared.request.Request.{Request}
 use Rattle.zk_messages.specs.declared.request.Request.TheVariants.{Exists, Ping, Close}
 use Rattle.zk_messages.specs.declared.request.Item.{Item}
 use Rattle.zk_messages.specs.declared.request.Item.TheVariants.{Asks, Requests}
@@ -13,12 +14,12 @@ use Rattle.zk_messages.specs.Refuses.{Refuses, Rule}
 use Rattle.zk_path.specs.Paths.{IsComponent, text_of}
 use Rattle.tree_state.specs.declared.message.Message.{Message}
 use Rattle.tree_state.specs.State.{State, start_at, start, session_of, has_connection}
-use Rattle.tree_state.specs.Commands.{IsCommand, Asks as Commands, stat_at, ping, close}
-use Rattle.tree_state.specs.Step.{Act, Next, clamped, given_to, step}
+use Rattle.tree_state.specs.Commands.{Command, IsCommand, Asks as Commands, stat_at, ping, close}
+use Rattle.tree_state.specs.Step.{Act, asks, Next, clamped, given_to, step}
 use Rattle.world_core.specs.Plain.{plain}
-use Rattle.world_core.specs.Acts.{AreActs}
+use Rattle.world_core.specs.Acts.{IsAsked, AreActs}
 use Rattle.world_core.specs.Out.{outputs, to_connection, out}
-use Rattle.world_core.specs.Order.{MayCome, zxid_after, LegalFrom, HasNoConnect, ConnectsOnce, Legal}
+use Rattle.world_core.specs.Order.{HasSession, MayCome, zxid_after, LegalFrom, HasNoConnect, ConnectsOnce, Legal}
 use Rattle.world_core.specs.Fill.{fill, filled, without_first}
 use Rattle.world_core.specs.Veiled.{VeilsItems, VeilsOrder}
 use Rattle.world_core.specs.FirstForm.{IsFirstConnect, AreFirstRequests, AreFirst}
@@ -40,13 +41,16 @@ close_command : IsCommand Close close
 unfolding IsCommand Commands Refuses
 close_command = inr (refl, tt)
 
+asked_as : (xid : ℤ) (request : Request) (command : Command) → IsCommand request command → IsAsked 1 xid request (pos 0) (asks 1 xid command (pos 0))
+asked_as xid request command h = record { command = command; is_command = h; is = refl }
+
 requests_acts : (items : List Item) → AreFirstRequests items → AreActs (order_of items) (acts_of items)
 unfolding AreFirstRequests order_of acts_of
 requests_acts [] h = tt
 requests_acts (Asks asked ∷ items) h = absurd h
-requests_acts (Requests xid (Exists asked) ∷ items) h = ((stat_at [] false, exists_command asked h.0.0 h.0.1, refl), requests_acts items h.1)
-requests_acts (Requests xid Ping ∷ items) h = ((ping, ping_command, refl), requests_acts items h.1)
-requests_acts (Requests xid Close ∷ items) h = ((close, close_command, refl), requests_acts items (subst AreFirstRequests (sym h) tt))
+requests_acts (Requests xid (Exists asked) ∷ items) h = (asked_as xid _ _ (exists_command asked h.0.0 h.0.1), requests_acts items h.1)
+requests_acts (Requests xid Ping ∷ items) h = (asked_as xid _ _ ping_command, requests_acts items h.1)
+requests_acts (Requests xid Close ∷ items) h = (asked_as xid _ _ close_command, requests_acts items (subst AreFirstRequests (sym h) tt))
 requests_acts (Requests xid request ∷ items) h = absurd h.0
 
 -- One more entry
@@ -77,22 +81,22 @@ outputs_more s t item acts ms one h = output_more t item (step plain s (act_of i
 
 -- Each step of a run
 
-has_session : (timeout : ℤ) → session_of 1 (opened timeout).sessions ≡ Some (pos 1)
+has_session : (timeout : ℤ) → HasSession (opened timeout) 1
 unfolding session_of has_connection
-has_session timeout = refl
+has_session timeout = record { session = pos 1; live = refl }
 
 exists_steps : (timeout xid : ℤ) (asked : PathWatch) → Steps (opened timeout) (opened timeout) (Requests xid (Exists asked))
-exists_steps timeout xid asked = record { step = exists_step timeout xid asked; may = (pos 1, has_session timeout); last_is = refl }
+exists_steps timeout xid asked = record { step = exists_step timeout xid asked; may = has_session timeout; last_is = refl }
 
 ping_steps : (timeout xid : ℤ) → Steps (opened timeout) (opened timeout) (Requests xid Ping)
-ping_steps timeout xid = record { step = ping_step timeout xid; may = (pos 1, has_session timeout); last_is = refl }
+ping_steps timeout xid = record { step = ping_step timeout xid; may = has_session timeout; last_is = refl }
 
 close_steps : (timeout xid : ℤ) → Steps (opened timeout) ended (Requests xid Close)
-close_steps timeout xid = record { step = close_step timeout xid; may = (pos 1, has_session timeout); last_is = refl }
+close_steps timeout xid = record { step = close_step timeout xid; may = has_session timeout; last_is = refl }
 
 first_may : (asked : ConnectRequest) → IsFirstConnect asked → MayCome passwords start (entry_of (Asks asked))
 unfolding start_at given_to
-first_may asked h = (subst (λ (z : ℤ). z ≤ℤ pos 0) (sym h.1) (omega (arith, ints)), rw h.2 refl)
+first_may asked h = record { seen = subst (λ (z : ℤ). z ≤ℤ pos 0) (sym h.1) (omega (arith, ints)); given_is = rw h.2 refl }
 
 connect_steps : (asked : ConnectRequest) → IsFirstConnect asked → Steps start (opened (clamped asked.timeout)) (Asks asked)
 connect_steps asked h = record { step = connect_step asked; may = first_may asked h; last_is = refl }

@@ -22,20 +22,30 @@ abbrev pub zxid_after : Entry → ℤ
 zxid_after (Connect c asked session timeout password zxid now) = zxid
 zxid_after (Take c xid request zxid now) = zxid
 
--- A connect request may come that has seen no more than the last zxid, and it is given what the machine gives; a request may
--- come on a connection that has a live session.
-abbrev pub MayCome : (ℤ → List ℕ) → State → Entry → Type 0
-MayCome passwords s (Connect c asked session timeout password zxid now) =
-    (asked.seen ≤ℤ s.last) × (record { session = session; timeout = timeout; password = password } ≡ given_in passwords s asked)
-MayCome passwords s (Take c xid request zxid now) = (session : ℤ) × (session_of c s.sessions ≡ Some session)
+-- a connect request may come, and be given this
+pub record MayConnect (passwords : ℤ → List ℕ) (s : State) (asked : ConnectRequest) (given : Given) : Type 0 where
+  -- its client has seen no more than the last zxid
+  pub seen : asked.seen ≤ℤ s.last
+  -- it is given what the machine gives
+  pub given_is : given ≡ given_in passwords s asked
 
--- the entry, which is this act, may come next
+-- the connection has a live session
+pub record HasSession (s : State) (c : ℕ) : Type 0 where
+  pub session : ℤ
+  pub live : session_of c s.sessions ≡ Some session
+
+-- the entry may come; a request comes in a session
+abbrev pub MayCome : (ℤ → List ℕ) → State → Entry → Type 0
+MayCome passwords s (Connect c asked session timeout password zxid now) = MayConnect passwords s asked (record { session = session; timeout = timeout; password = password })
+MayCome passwords s (Take c xid request zxid now) = HasSession s c
+
+-- the entry, which is this act, comes next
 pub record IsNext (naming : Naming) (passwords : ℤ → List ℕ) (s : State) (e : Entry) (act : Act) : Type 0 where
   pub may : MayCome passwords s e
   -- its zxid is the last one after it
   pub last_is : zxid_after e ≡ (step naming s act).state.last
 
--- one after another
+-- the entries, which are these acts, come one after another
 unfoldable pub LegalFrom : Naming → (ℤ → List ℕ) → State → List Entry → List Act → Type 0
 LegalFrom naming passwords s [] [] = Unit {0}
 LegalFrom naming passwords s [] (act ∷ acts) = ⊥
@@ -58,5 +68,6 @@ ConnectsOnce (Take c xid request zxid now ∷ es) = ConnectsOnce es
 -- these passwords.
 pub record Legal (naming : Naming) (passwords : ℤ → List ℕ) (order : List Entry) (acts : List Act) : Type 0 where
   pub are_acts : AreActs order acts
+  -- from the start, each may come when it does
   pub steps : LegalFrom naming passwords start order acts
   pub once : ConnectsOnce order
