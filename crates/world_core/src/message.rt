@@ -10,6 +10,7 @@ use tree_state::Message;
 use zk_messages::{write_event, write_reply};
 
 /// Appends the one spelling of a message; without memory nothing is appended.
+#[tactic(auto, unfolding(crate::specs::Messages::SpellsMessage), using(crate::proofs::MessageLemmas::value_added))]
 pub fn write_message(message: &Message, into: &mut Vec<u8>) -> Result<(), Memory>
     requires { IsSendable message.now }
     ensures ok { OnOk result (AddsBytes into.old.items into.new.items (SpellsMessage message.now)) }
