@@ -33,3 +33,5 @@ mod Ended
 mod Connected
 pub mod Names
 pub mod Creating
+pub mod Answering
+pub mod Shorts
