@@ -291,7 +291,7 @@ live_given s k (y ∷ ys) x given live = elim (cases_Bool (is_numbered k y)) [
     some_same h = cc
 
 -- the moment at which a live session ends
-is_moment : (s : State) (x : Session) (session : ℤ) (before : Held) (at : Moment) → Means before s → session_at session s.sessions ≡ Some x
+pub is_moment : (s : State) (x : Session) (session : ℤ) (before : Held) (at : Moment) → Means before s → session_at session s.sessions ≡ Some x
     → at.zxid ≡ before.last +ℤ pos 1 → at.session ≡ session → IsMoment s at
 unfolding next_zxid
 is_moment s x session before at means live next same =

@@ -35,3 +35,4 @@ pub mod Names
 pub mod Creating
 pub mod Answering
 pub mod Shorts
+pub mod Applied

@@ -3,8 +3,10 @@ use Rattle.std.proofs.Common.{◌≡◌, ℕ, ℤ, ◌==◌, Bool, true, false, 
 use Rattle.std.specs.Cmp.{signed_Decides, int_eq_equiv, int_cmp_is}
 use Rattle.std.specs.Option.{option_map, option_map_or, option_or}
 use Rattle.std.proofs.lemmas.Bool.{cases_Bool, eqb-true, eq-eqb, both_ways}
+use Rattle.std.proofs.lemmas.List.{map-id}
+use Rattle.std.proofs.lemmas.Simd.{map-map}
 use Rattle.std.proofs.lemmas.List.Elements.{All-cons, All-head, All-nil, All-tail}
-use Rattle.tree_state.specs.State.{Session, has_connection, session_of, is_numbered, session_at, changed_session, change_session, is_other_session, without_session, without_connection}
+use Rattle.tree_state.specs.State.{Session, has_connection, session_of, is_numbered, session_at, changed_session, change_session, heard_at, is_other_session, without_session, without_connection}
 use Rattle.tree_state.specs.Sessions.{IsOnOne, AreBelow}
 
 -- no two sessions have one number
@@ -215,3 +217,53 @@ above_all k (x ∷ xs) h =
   where
     other_than : (z : ℤ) → z <ℤ k → int_eq z k ≡ false
     other_than z below = ap is_eq (sym (int_cmp_is z k Less below))
+
+-- ---- a session that is heard, and then not
+
+heard_one : (k now : ℤ) (x y : Session) → (is_numbered k y ≡ true → y ≡ x) → changed_session k (heard_at x.heard) (changed_session k (heard_at now) y) ≡ y
+unfolding changed_session heard_at is_numbered
+heard_one k now x y same = go (int_eq y.number k) refl
+  where
+    go : (b : Bool) → int_eq y.number k ≡ b → changed_session k (heard_at x.heard) (cond b (record y { heard = now }) y) ≡ y
+    go true e =
+        ap (λ (b : Bool). cond b (record y { heard = x.heard }) (record y { heard = now })) e
+        ∙ ap (λ (z : ℤ). record y { heard = z }) (ap (λ (z : Session). z.heard) (sym (same e)))
+    go false e = ap (λ (b : Bool). cond b (record y { heard = x.heard }) y) e
+
+-- it was last heard when it was before
+pub heard_back : (k now : ℤ) (xs : List Session) (x : Session) → AreDistinct xs → session_at k xs ≡ Some x
+    → change_session k (heard_at x.heard) (change_session k (heard_at now) xs) ≡ xs
+unfolding change_session
+heard_back k now xs x distinct live =
+    map-map (changed_session k (heard_at x.heard)) (changed_session k (heard_at now)) xs
+    ∙ same_all (λ y. changed_session k (heard_at x.heard) (changed_session k (heard_at now) y)) (λ y. y) xs
+    (all_live (λ y. changed_session k (heard_at x.heard) (changed_session k (heard_at now) y) ≡ y) xs distinct (λ j y h. heard_one k now x y (λ numbered.
+      let at_k : j ≡ k = sym (number_of j xs y h) ∙ is_number k y numbered in
+      some_same y x (sym h ∙ ap (λ (z : ℤ). session_at z xs) at_k ∙ live))))
+    ∙ map-id xs
+  where
+    some_same : (a b : Session) → Some a ≡ Some b → a ≡ b
+    some_same a b h = cc
+
+-- ---- the session of a connection is live
+
+pub record IsLive (k : ℤ) (xs : List Session) : Type 0 where
+  pub session : Session
+  pub live : session_at k xs ≡ Some session
+
+pub live_on : (c : ℕ) (k : ℤ) (xs : List Session) → session_of c xs ≡ Some k → IsLive k xs
+live_on c k [] h = absurd (none_on c k h)
+live_on c k (x ∷ xs) h = elim (cases_Bool (is_numbered k x)) [
+  | inl numbered ↦ record { session = x; live = at_first k x xs numbered }
+  | inr other ↦ elim (cases_Bool (has_connection c x)) [
+    | inl on ↦
+      let own : x.number ≡ k = some_number x.number k (sym (on_first c x xs on) ∙ h) in
+      absurd (both_ways _ other (ap (λ (z : ℤ). is_numbered z x) (sym own) ∙ own_number x))
+    | inr off ↦
+      let rest = live_on c k xs (sym (on_others c x xs off) ∙ h) in
+      record { session = rest.session; live = at_others k x xs other ∙ rest.live }
+  ]
+]
+  where
+    some_number : (a b : ℤ) → Some a ≡ Some b → a ≡ b
+    some_number a b e = cc

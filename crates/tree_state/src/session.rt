@@ -78,10 +78,12 @@ impl Sessions {
         }
     }
 
-    /// The session is heard. Takes no memory.
+    /// The session is heard. To hear it again when it was heard before takes that back. Takes no memory.
     pub(crate) fn hear(&mut self, session: i64, now: i64)
-        ensures { (xs : List PlainSession) (owned : Owning) → Keeps self.old xs owned
+        ensures heard { (xs : List PlainSession) (owned : Owning) → Keeps self.old xs owned
             → Keeps self.new (change_session session (heard_at now) xs) owned }
+        ensures back { (xs : List PlainSession) (owned : Owning) (x : PlainSession) → Keeps self.old xs owned → session_at session xs ≡ Some x
+            → change_session session (heard_at x.heard) (change_session session (heard_at now) xs) ≡ xs }
     {
         if let Some(live) = self.live.get_mut(&session) {
             live.heard = now;

@@ -75,7 +75,8 @@ impl<N: Numberer + Drop> Tree<N> {
         requires served { IsServed request.now }
         ensures step { IfOk result (λ outputs. (naming : Naming) (s : State) (command : Command) → Means self.old.held s → IsNaming (N.named self.old.numberer) naming
             → IsCommand request.now command → Does naming s (asks connection xid command now) self.new.held outputs) }
-        ensures memory { OnErr result (Stays self.old.held self.new.held) }
+        ensures memory { OnErr result ((naming : Naming) (s : State) (command : Command) → Means self.old.held s → IsNaming (N.named self.old.numberer) naming
+            → IsCommand request.now command → Means self.new.held s) }
         ensures names { (stem : List ℕ) (number : ℕ) (text : List ℕ) → N.named self.new.numberer stem number text ↔ N.named self.old.numberer stem number text }
     {
         let Some(session) = self.held.sessions.session_of(connection) else {
