@@ -1,6 +1,5 @@
 -- What a change that is asked for alone is answered with.
-use Rattle.std.proofs.Common.{◌≡◌, ℕ, ℤ, List, [], Option, Some, None, Result, Ok, Err, refl, sym, ap, subst, ◌∙◌}
-use Rattle.zk_path.specs.Paths.{text_of}
+use Rattle.std.proofs.Common.{ℕ, ℤ, List, Ok, Err, refl, sym, ap, subst}
 use Rattle.zk_messages.specs.declared.reply.OpResult.{OpResult}
 use Rattle.zk_messages.specs.declared.reply.Outcome.{Outcome}
 use Rattle.zk_messages.specs.declared.reply.Outcome.TheVariants as outcomes

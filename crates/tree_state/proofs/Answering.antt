@@ -1,6 +1,5 @@
 -- A refused request is answered with its code, and each other one by its row.
-use Rattle.std.proofs.Common.{◌≡◌, ℕ, ℤ, Bool, List, [], ◌∷◌, Option, Some, None, Result, Ok, Err, refl, sym, ap, subst, ◌∙◌, inl, inr}
-use Rattle.std.specs.Prelude.{◌⊎◌, ◌<◌, ◌^◌, ◌≤◌, length, All, IfSome}
+use Rattle.std.proofs.Common.{◌≡◌, ℕ, ℤ, Bool, List, Option, Some, None, Result, Ok, refl, sym, ap, subst, inl, inr}
 use Rattle.jute_core.specs.declared.held.Memory.{Memory}
 use Rattle.zk_records.specs.declared.create.CreateRequest.{CreateRequest}
 use Rattle.zk_messages.specs.Refuses.{Refuses}
@@ -13,7 +12,7 @@ use Rattle.tree_state.specs.declared.held.Held.{Held}
 use Rattle.tree_state.specs.declared.node.Moment.{Moment}
 use Rattle.tree_state.specs.Nodes.{Path}
 use Rattle.tree_state.specs.State.{State}
-use Rattle.tree_state.specs.Commands.{Command, Asks, IsCommand, IsCreate, refused, single, create}
+use Rattle.tree_state.specs.Commands.{Command, Asks, IsCommand, IsCreate, single, create}
 use Rattle.tree_state.specs.Changes.{Naming}
 use Rattle.tree_state.specs.Step.{answer, with_error}
 use Rattle.tree_state.specs.Trees.{Means, Answers, IsOther}

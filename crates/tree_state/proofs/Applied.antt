@@ -1,11 +1,10 @@
 -- A request of a connection: its session is heard, it is answered, and the reply carries the last zxid.
-use Rattle.std.proofs.Common.{◌≡◌, ℕ, ℤ, Bool, true, false, cond, List, [], ◌∷◌, ◌++◌, Option, Some, None, Result, Ok, Err, refl, sym, ap, subst, ◌∙◌, int_eq}
-use Rattle.std.specs.Prelude.{All, map, pos, ◌+ℤ◌}
+use Rattle.std.proofs.Common.{◌≡◌, ℕ, ℤ, Bool, true, false, cond, List, [], ◌∷◌, ◌++◌, Some, None, Result, Ok, Err, refl, sym, ap, subst, ◌∙◌}
+use Rattle.std.specs.Prelude.{All, pos, ◌+ℤ◌}
 use Rattle.std.specs.Option.{option_map}
 use Rattle.jute_core.specs.declared.held.Memory.{Memory}
 use Rattle.std.proofs.lemmas.List.Elements.{All-nil, All-cons, All-head, All-tail}
 use Rattle.zk_messages.specs.declared.reply.Outcome.{Outcome}
-use Rattle.zk_messages.specs.declared.reply.Reply.{Reply}
 use Rattle.tree_state.specs.declared.held.Held.{Held}
 use Rattle.tree_state.specs.declared.message.Message.TheVariants as messages
 use Rattle.tree_state.specs.declared.message.Output.{Output}
@@ -17,7 +16,7 @@ use Rattle.tree_state.specs.Commands.{Command}
 use Rattle.tree_state.specs.Changes.{Naming}
 use Rattle.tree_state.specs.Step.{Answer, Next, answer, asks, step, taken, replied, hears}
 use Rattle.tree_state.specs.Sessions.{Keeps}
-use Rattle.tree_state.specs.Trees.{Means, Does, Answers, AreOwned, IsGiven, IsMoment}
+use Rattle.tree_state.specs.Trees.{Means, Does, Answers, IsGiven, IsMoment}
 use Rattle.tree_state.proofs.Ended.{is_moment}
 use Rattle.tree_state.proofs.SessionLists.{at_changed, live_on}
 
@@ -89,10 +88,10 @@ applied naming s c xid now k command h outcome at outputs on moment a out =
     let ans : Answers (hears k now s) b h (Ok outcome) = subst (λ (x : Moment). Answers (hears k now s) (answer naming x c (hears k now s) command) h (Ok outcome)) moment a in
     let e : step naming s (asks c xid command now) ≡ replied c xid b = ap (taken naming c xid command now s) on in
     let same : outputs ≡ (replied c xid b).outputs =
-      out
-      ∙ ap (λ (z : ℤ). reply_to c xid z outcome ∷ []) ans.2.last
-      ∙ ap (λ (o : Outcome). reply_to c xid b.state.last o ∷ []) ans.0
-      ∙ ap (λ (es : List Output). es ++ reply_to c xid b.state.last b.outcome ∷ []) (sym ans.1) in
+    out
+    ∙ ap (λ (z : ℤ). reply_to c xid z outcome ∷ []) ans.2.last
+    ∙ ap (λ (o : Outcome). reply_to c xid b.state.last o ∷ []) ans.0
+    ∙ ap (λ (es : List Output). es ++ reply_to c xid b.state.last b.outcome ∷ []) (sym ans.1) in
     record { sent = same ∙ ap (λ (n : Next). n.outputs) (sym e); means = subst (λ (n : Next). Means h n.state) (sym e) ans.2 }
 
 -- ---- the session is heard, and what is answered is answered in the state after that
@@ -123,7 +122,7 @@ shown naming c s command k now before sessions at after result m on keeps next s
     let mid = heard_means before sessions s k now m keeps in
     let there = still_live s k k now live.session live.live in
     shows _ mid (is_moment (hears k now s) _ k (record before { sessions = sessions }) at mid there next same)
-      (subst (λ (j : ℤ). session_at j (hears k now s).sessions ≡ Some (changed_session k (heard_at now) live.session)) (sym same) there)
+    (subst (λ (j : ℤ). session_at j (hears k now s).sessions ≡ Some (changed_session k (heard_at now) live.session)) (sym same) there)
 
 pub means_after_memory : (s : State) (a : Answer) (h : Held) (e : Memory) → Answers s a h (Err e) → Means h s
 unfolding Answers

@@ -1,5 +1,5 @@
 -- The row of create, from its checks, the name and what is put there.
-use Rattle.std.proofs.Common.{◌≡◌, ℕ, ℤ, Bool, true, false, List, [], ◌∷◌, Option, Some, None, Result, Ok, Err, IsTrue, refl, sym, ap, subst, ◌∙◌}
+use Rattle.std.proofs.Common.{◌≡◌, ℕ, ℤ, Bool, true, false, List, ◌∷◌, Option, Some, None, Result, Ok, Err, IsTrue, refl, sym, subst, ◌∙◌}
 use Rattle.std.specs.Prelude.{◌↔◌}
 use Rattle.std.specs.Result.{IsErrAnd}
 use Rattle.std.proofs.lemmas.Result.{err_from_is_err_and}
@@ -11,7 +11,7 @@ use Rattle.tree_state.specs.declared.held.Held.{Held}
 use Rattle.tree_state.specs.declared.node.Moment.{Moment}
 use Rattle.tree_state.specs.Nodes.{Path, Node}
 use Rattle.tree_state.specs.State.{State}
-use Rattle.tree_state.specs.Commands.{Command, IsTextOf, IsCreate, IsEphemeral, single, create}
+use Rattle.tree_state.specs.Commands.{IsTextOf, IsCreate, IsEphemeral, single, create}
 use Rattle.tree_state.specs.Changes.{Naming, Trial, failed, Effect, perform, name_for, bad_arguments}
 use Rattle.tree_state.specs.Step.{Answer, answer, answer_single, with_error}
 use Rattle.tree_state.specs.Trees.{Means, Answers, MayCreate, IsParent, IsNamedTo, name_at}
@@ -64,4 +64,4 @@ unfolding answer MayCreate IsNamedTo
 creates naming at c s after r p n d q e creations text f result k may name kept done =
     let given = done name.0 may.0 name.2 may.1 (name_of_parent naming p n q may.0 creations may.2 ∙ name.1) in
     subst (λ (x : Option (List ℕ)). Answers s (answer_single s (perform naming at s (create p n x q e))) after result) k.same_content
-      (subst (λ (b : Bool). Answers s (answer_single s (perform naming at s (create p n r.content q b))) after result) (same_truth f e kept k.kept) given)
+    (subst (λ (b : Bool). Answers s (answer_single s (perform naming at s (create p n r.content q b))) after result) (same_truth f e kept k.kept) given)

@@ -1,5 +1,5 @@
 -- What is read of a node is what its row tells.
-use Rattle.std.proofs.Common.{◌≡◌, ℕ, suc, ℤ, Bool, true, false, cond, List, [], ◌∷◌, Option, Some, None, Result, Ok, Err, length, refl, sym, ap, subst, ◌∙◌, inl, inr, arith}
+use Rattle.std.proofs.Common.{◌≡◌, ℕ, suc, ℤ, Bool, true, false, cond, List, [], ◌∷◌, Option, Some, None, length, refl, sym, ap, ◌∙◌}
 use Rattle.std.specs.Prelude.{map, pos, min, ◌+◌}
 use Rattle.std.specs.Option.{option_map}
 use Rattle.std.specs.String.{string_bytes}
@@ -42,9 +42,18 @@ count_names es p n h = sym (length-map n.names.keys string_bytes) ∙ ap length 
 pub stat_is : (es : List Place) (p : Path) (n : code.Node) → IsNodeAt es p n → kept_stat n ≡ stat_of es p (node_of n)
 unfolding kept_stat stat_of node_of
 stat_is es p n h = ap (λ (l : ℕ). record {
-  czxid = n.numbers.czxid; mzxid = n.numbers.mzxid; ctime = n.numbers.ctime; mtime = n.numbers.mtime; version = pos n.numbers.version;
-  cversion = pos (min (n.numbers.creations + n.numbers.deletions) 2147483647); aversion = pos n.numbers.aversion; owner = n.numbers.owner;
-  length = pos (size_of n.content); children = pos l; pzxid = n.numbers.pzxid }) (count_names es p n h.names)
+  czxid = n.numbers.czxid;
+  mzxid = n.numbers.mzxid;
+  ctime = n.numbers.ctime;
+  mtime = n.numbers.mtime;
+  version = pos n.numbers.version;
+  cversion = pos (min (n.numbers.creations + n.numbers.deletions) 2147483647);
+  aversion = pos n.numbers.aversion;
+  owner = n.numbers.owner;
+  length = pos (size_of n.content);
+  children = pos l;
+  pzxid = n.numbers.pzxid;
+}) (count_names es p n h.names)
 
 pub tells_only : (s : State) (a : Answer) (outcome : Outcome) → a ≡ told_only s outcome → Tells s a outcome
 unfolding Tells told_only
@@ -76,7 +85,7 @@ told_content naming at c s p n content stat f e k =
     let h = present s.nodes p n f in
     let st = sym (k h.small ∙ stat_is s.nodes p n h) in
     tells_only s _ _ (content_found naming at c s p (node_of n) h.plain
-      ∙ ap (λ (x : Stat). told_only s (outcomes.Content n.content x)) st ∙ ap (λ (x : Option (List ℕ)). told_only s (outcomes.Content x stat)) (sym e))
+    ∙ ap (λ (x : Stat). told_only s (outcomes.Content n.content x)) st ∙ ap (λ (x : Option (List ℕ)). told_only s (outcomes.Content x stat)) (sym e))
 
 pub told_acl : (naming : Naming) (at : Moment) (c : ℕ) (s : State) (p : Path) (n : code.Node) (acls : List Acl) (stat : Stat) → IsFound s.nodes p (Some n) → acls ≡ open_acl ∷ [] → (IsSmall n → stat ≡ kept_stat n)
     → Tells s (answer naming at c s (get_acl p)) (outcomes.Acls (Some acls) stat)
@@ -84,7 +93,7 @@ told_acl naming at c s p n acls stat f e k =
     let h = present s.nodes p n f in
     let st = sym (k h.small ∙ stat_is s.nodes p n h) in
     tells_only s _ _ (acl_found naming at c s p (node_of n) h.plain
-      ∙ ap (λ (x : Stat). told_only s (outcomes.Acls (Some (open_acl ∷ [])) x)) st ∙ ap (λ (x : List Acl). told_only s (outcomes.Acls (Some x) stat)) (sym e))
+    ∙ ap (λ (x : Stat). told_only s (outcomes.Acls (Some (open_acl ∷ [])) x)) st ∙ ap (λ (x : List Acl). told_only s (outcomes.Acls (Some x) stat)) (sym e))
 
 pub told_names : (naming : Naming) (at : Moment) (c : ℕ) (s : State) (p : Path) (b : Bool) (n : code.Node) (names : List (List ℕ)) → b ≡ false → IsFound s.nodes p (Some n) → names ≡ map string_bytes n.names.keys
     → Tells s (answer naming at c s (get_children p false b)) (outcomes.Children (Some names))
@@ -100,7 +109,7 @@ told_names_stat naming at c s p b n names stat on f e k =
     let h = present s.nodes p n f in
     let st = sym (k h.small ∙ stat_is s.nodes p n h) in
     tells_only s _ _ (children_found naming at c s p b (node_of n) h.plain ∙ ap (λ (x : Bool). told_only s (names_with x s.nodes p (node_of n))) on
-      ∙ ap (λ (x : Stat). told_only s (outcomes.Children2 (Some (child_names p s.nodes)) x)) st ∙ ap (λ (x : List (List ℕ)). told_only s (outcomes.Children2 (Some x) stat)) (sym (e ∙ h.names)))
+    ∙ ap (λ (x : Stat). told_only s (outcomes.Children2 (Some (child_names p s.nodes)) x)) st ∙ ap (λ (x : List (List ℕ)). told_only s (outcomes.Children2 (Some x) stat)) (sym (e ∙ h.names)))
 
 -- no node is read where none is
 pub no_stat : (naming : Naming) (at : Moment) (c : ℕ) (s : State) (p : Path) → IsFound s.nodes p None → Tells s (answer naming at c s (stat_at p false)) (outcomes.Error no_node)

@@ -1,17 +1,13 @@
 -- Each end of each row of the machine, from what the checks find.
-use Rattle.std.proofs.Common.{◌≡◌, ℕ, ℤ, Bool, true, false, List, [], ◌∷◌, Option, Some, None, refl, sym, ap, subst, ◌∙◌}
-use Rattle.std.specs.Prelude.{length}
-use Rattle.zk_path.specs.Paths.{text_of}
+use Rattle.std.proofs.Common.{◌≡◌, ℕ, ℤ, Bool, true, false, List, [], ◌∷◌, Option, Some, None, ap, ◌∙◌}
 use Rattle.zk_messages.specs.Refuses.{open_acl}
-use Rattle.zk_messages.specs.declared.reply.OpResult.TheVariants as results
-use Rattle.zk_messages.specs.declared.reply.Outcome.{Outcome}
 use Rattle.zk_messages.specs.declared.reply.Outcome.TheVariants as outcomes
 use Rattle.tree_state.specs.declared.node.Moment.{Moment}
 use Rattle.tree_state.specs.Nodes.{Path, Node, find, is_there, change, has_children, stat_of}
-use Rattle.tree_state.specs.State.{State, on_data, on_children, watching_if}
-use Rattle.tree_state.specs.Commands.{create, delete, set_content, check, set_acl, stat_at, get_content, get_acl, get_children}
-use Rattle.tree_state.specs.Changes.{Trial, failed, done, need, refuse, Naming, Effect, perform, has_owner, is_at_last, is_other_version, name_for, created, deleted, updated, fresh_numbers, with_acl, no_node, bad_version, not_empty, node_exists, no_children_for_ephemerals, system_error, bad_arguments}
-use Rattle.tree_state.specs.Step.{Answer, answer, answer_single, or_error, with_error, told_only, with_watch, names_with}
+use Rattle.tree_state.specs.State.{State, on_data, watching_if}
+use Rattle.tree_state.specs.Commands.{create, delete, set_content, set_acl, stat_at, get_content, get_acl, get_children}
+use Rattle.tree_state.specs.Changes.{Trial, failed, done, need, refuse, Naming, perform, has_owner, is_at_last, is_other_version, name_for, created, deleted, updated, fresh_numbers, with_acl, no_node, bad_version, not_empty, node_exists, no_children_for_ephemerals, system_error, bad_arguments}
+use Rattle.tree_state.specs.Step.{answer, or_error, with_error, told_only, with_watch, names_with}
 use Rattle.tree_state.specs.Trees.{IsParent}
 
 -- ---- the checks

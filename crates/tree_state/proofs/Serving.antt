@@ -1,5 +1,5 @@
 -- The command of a request is the one of its row, and is answered as the row is.
-use Rattle.std.proofs.Common.{◌≡◌, ◌≢◌, ℕ, ℤ, Bool, true, false, List, [], ◌∷◌, Option, Some, None, Result, Ok, Err, refl, sym, ap, subst, ◌∙◌, inl, inr}
+use Rattle.std.proofs.Common.{◌≡◌, ℕ, ℤ, Bool, true, false, List, [], ◌∷◌, Option, Some, None, Result, Ok, Err, refl, sym, ap, subst, ◌∙◌, inl, inr}
 use Rattle.std.specs.Prelude.{IfOk}
 use Rattle.zk_path.specs.Paths.{text_of}
 use Rattle.jute_core.specs.declared.held.Bytes.{Bytes}
@@ -21,9 +21,9 @@ use Rattle.tree_state.specs.declared.held.Held.{Held}
 use Rattle.tree_state.specs.declared.node.Moment.{Moment}
 use Rattle.tree_state.specs.Nodes.{Path, ephemerals}
 use Rattle.tree_state.specs.State.{State, Watch, left_of_others, session_at, without_session}
-use Rattle.tree_state.specs.Commands.{Command, Asks, IsTextOf, refused, single, multi, set_acl, stat_at, get_content, get_acl, get_children, sync, ping, set_watches, close, create, delete, set_content, check}
+use Rattle.tree_state.specs.Commands.{Command, Asks, IsTextOf, single, set_acl, stat_at, get_content, get_acl, get_children, sync, ping, close, delete, set_content}
 use Rattle.tree_state.specs.Changes.{Naming, Effects, perform, all_deleted}
-use Rattle.tree_state.specs.Step.{Answer, answer, answer_single, told_only, closed, ended, watches_gone, connection_at}
+use Rattle.tree_state.specs.Step.{answer, answer_single, told_only, closed, ended, watches_gone, connection_at}
 use Rattle.tree_state.specs.Trees.{Means, Answers, Tells, IsServed, IsOther}
 use Rattle.tree_state.proofs.Alone.{told_answers}
 use Rattle.tree_state.proofs.Ended.{all_deleted_is}
@@ -174,7 +174,7 @@ serve_delete naming at c s h r command result f a t =
     let k = asks_delete r command a in
     let u = under r.path k.0 k.1 (not_root r.path f) in
     subst (λ (x : Command). Answers s (answer naming at c s x) h result) (sym (k.2 ∙ ap (λ (p : Path). single (delete p r.version)) u.2))
-      (t u.0 u.1 (subst (IsTextOf r.path) u.2 k.1))
+    (t u.0 u.1 (subst (IsTextOf r.path) u.2 k.1))
 
 pub synced : (naming : Naming) (at : Moment) (c : ℕ) (s : State) (h : Held) (p : Path) (text : List ℕ) (result : Result Outcome Memory) → Means h s → IsTextOf text p
     → IfOk result (λ o. (naming' : Naming) (at' : Moment) (c' : ℕ) (s' : State) (p' : Path) → IsTextOf text p' → Tells s' (answer naming' at' c' s' (sync p')) o)
@@ -197,9 +197,11 @@ serve_close naming at c s h before command m a n =
     let e = all_deleted at.zxid (ephemerals at.session s.nodes) s in
     let is = all_deleted_is at.zxid (ephemerals at.session s.nodes) s m.watches in
     let bare : e.state.watches ≡ [] = ap (λ (x : Effects). x.state.watches) is in
-    subst (λ (x : Command). Answers s (answer naming at c s x) h (Ok outcomes.Empty)) (sym (asks_close command a))
-      (refl, ap (λ (x : Effects). x.events) is,
-      subst (λ (ws : List Watch). Means h (record e.state { sessions = without_session at.session e.state.sessions; watches = ws })) (none_go (connection_at (session_at at.session e.state.sessions)) c e.state.watches bare) n)
+    subst (λ (x : Command). Answers s (answer naming at c s x) h (Ok outcomes.Empty)) (sym (asks_close command a)) (
+      refl,
+      ap (λ (x : Effects). x.events) is,
+      subst (λ (ws : List Watch). Means h (record e.state { sessions = without_session at.session e.state.sessions; watches = ws })) (none_go (connection_at (session_at at.session e.state.sessions)) c e.state.watches bare) n,
+    )
 
 -- ---- requests that no row is asked for
 

@@ -238,8 +238,8 @@ heard_back k now xs x distinct live =
     map-map (changed_session k (heard_at x.heard)) (changed_session k (heard_at now)) xs
     ∙ same_all (λ y. changed_session k (heard_at x.heard) (changed_session k (heard_at now) y)) (λ y. y) xs
     (all_live (λ y. changed_session k (heard_at x.heard) (changed_session k (heard_at now) y) ≡ y) xs distinct (λ j y h. heard_one k now x y (λ numbered.
-      let at_k : j ≡ k = sym (number_of j xs y h) ∙ is_number k y numbered in
-      some_same y x (sym h ∙ ap (λ (z : ℤ). session_at z xs) at_k ∙ live))))
+    let at_k : j ≡ k = sym (number_of j xs y h) ∙ is_number k y numbered in
+    some_same y x (sym h ∙ ap (λ (z : ℤ). session_at z xs) at_k ∙ live))))
     ∙ map-id xs
   where
     some_same : (a b : Session) → Some a ≡ Some b → a ≡ b
@@ -257,11 +257,11 @@ live_on c k (x ∷ xs) h = elim (cases_Bool (is_numbered k x)) [
   | inl numbered ↦ record { session = x; live = at_first k x xs numbered }
   | inr other ↦ elim (cases_Bool (has_connection c x)) [
     | inl on ↦
-      let own : x.number ≡ k = some_number x.number k (sym (on_first c x xs on) ∙ h) in
-      absurd (both_ways _ other (ap (λ (z : ℤ). is_numbered z x) (sym own) ∙ own_number x))
+        let own : x.number ≡ k = some_number x.number k (sym (on_first c x xs on) ∙ h) in
+        absurd (both_ways _ other (ap (λ (z : ℤ). is_numbered z x) (sym own) ∙ own_number x))
     | inr off ↦
-      let rest = live_on c k xs (sym (on_others c x xs off) ∙ h) in
-      record { session = rest.session; live = at_others k x xs other ∙ rest.live }
+        let rest = live_on c k xs (sym (on_others c x xs off) ∙ h) in
+        record { session = rest.session; live = at_others k x xs other ∙ rest.live }
   ]
 ]
   where

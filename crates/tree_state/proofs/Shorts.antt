@@ -1,6 +1,5 @@
 -- The texts of a short request can be judged.
-use Rattle.std.proofs.Common.{◌≡◌, ℕ, List, [], ◌∷◌, Option, Some, None, length, subst, arith}
-use Rattle.std.specs.Prelude.{◌<◌, ◌^◌, ◌≤◌, All, IfSome}
+use Rattle.std.proofs.Common.{◌≡◌, ℕ, List, Option, Some, None, subst, arith}
 use Rattle.std.proofs.lemmas.List.Elements.{All-weaker}
 use Rattle.zk_records.specs.declared.create.CreateRequest.{CreateRequest}
 use Rattle.zk_messages.specs.Refuses.{HasShortPath, HasShortPaths, IsShortText, AreShortTexts}

@@ -12,8 +12,8 @@ use Rattle.tree_state.specs.declared.message.Message.TheVariants as messages
 use Rattle.tree_state.specs.declared.message.Output.{Output}
 use Rattle.tree_state.specs.declared.node.Numbers.{Numbers}
 use Rattle.tree_state.specs.declared.node.Moment.{Moment}
-use Rattle.tree_state.specs.Nodes.{Path, Node, Place, above, find, is_there, change, add, remove, has_children, stat_of, greatest_int}
-use Rattle.tree_state.specs.State.{State, Watch, Aspect, on_data, on_children, told, left}
+use Rattle.tree_state.specs.Nodes.{Path, Node, above, find, is_there, change, add, remove, has_children, stat_of, greatest_int}
+use Rattle.tree_state.specs.State.{State, on_data, on_children, told, left}
 use Rattle.tree_state.specs.Commands.{Change, create, delete, set_content, check}
 
 -- ---- checks in order

@@ -1,9 +1,8 @@
 -- Which nodes an ordered map of path texts holds.
-use Rattle.std.specs.Prelude.{◌≡◌, ℕ, ℤ, pos, ◌+◌, ◌≤◌, List, [], ◌∷◌, ◌++◌, length, map, min, Bool, true, false, Option, Some, None, All, String, codes, if◌then◌else◌}
+use Rattle.std.specs.Prelude.{◌≡◌, ℕ, pos, ◌+◌, ◌≤◌, List, [], ◌∷◌, length, map, min, true, false, Option, Some, None, All, String, codes, if◌then◌else◌}
 use Rattle.std.specs.Global.{Global}
 use Rattle.std.specs.Str.{bytes_eq}
 use Rattle.std.specs.String.{string_bytes}
-use Rattle.zk_path.specs.Paths.{text_of}
 use Rattle.zk_path.specs.View.{components}
 use Rattle.zk_records.specs.declared.stat.Stat.{Stat}
 use Rattle.tree_state.specs.declared.node.Node as code

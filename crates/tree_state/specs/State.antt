@@ -3,12 +3,12 @@
 -- It is a map from paths to nodes, the live sessions, a set of watches, the greatest session number given so far, and the
 -- last zxid. The map is kept as the list of its nodes in the order in which they were made; the watches, a set, ascend by
 -- their connections. There is no cipher, queue, frame or index in it.
-use Rattle.std.specs.Prelude.{ℕ, ℤ, pos, ◌+ℤ◌, ◌==◌, ◌&&◌, nat_le, not, List, [], ◌∷◌, ◌++◌, map, filter, Bool, true, false, Option, Some, None, if◌then◌else◌}
+use Rattle.std.specs.Prelude.{ℕ, ℤ, pos, ◌+ℤ◌, ◌==◌, ◌&&◌, nat_le, not, List, [], ◌∷◌, map, filter, Bool, true, false, Option, Some, None, if◌then◌else◌}
 use Rattle.std.specs.List.{filter_map, list_any}
 use Rattle.std.specs.Option.{option_map_or}
 use Rattle.std.specs.Ordering.{int_eq}
 use Rattle.tree_state.specs.declared.node.Numbers.{Numbers}
-use Rattle.tree_state.specs.Nodes.{Path, Node, Place, same_path}
+use Rattle.tree_state.specs.Nodes.{Path, Place, same_path}
 
 -- what a watch is on: the content of a node and whether it is there, or its children
 pub data Aspect : Type 0 where

@@ -13,7 +13,7 @@ use Rattle.tree_state.specs.declared.held.NotDone.{NotDone}
 use Rattle.tree_state.specs.declared.held.NotDone.TheVariants as stops
 use Rattle.tree_state.specs.declared.message.Output.{Output}
 use Rattle.tree_state.specs.declared.node.Moment.{Moment}
-use Rattle.tree_state.specs.Nodes.{Path, Node, Place, find, has_children, ephemerals}
+use Rattle.tree_state.specs.Nodes.{Path, Node, find, has_children, ephemerals}
 use Rattle.tree_state.specs.State.{State, Session, session_of, next_zxid}
 use Rattle.tree_state.specs.Commands.{IsTextOf, create}
 use Rattle.tree_state.specs.Changes.{Naming, Trial, failed, done, Effect, has_owner, is_at_last, perform}

@@ -39,11 +39,17 @@ impl From<Memory> for NotDone {
 }
 
 const SYSTEM_ERROR: i32 = -1;
+
 const UNIMPLEMENTED: i32 = -6;
+
 const NO_NODE: i32 = -101;
+
 const BAD_VERSION: i32 = -103;
+
 const NO_CHILDREN_FOR_EPHEMERALS: i32 = -108;
+
 const NODE_EXISTS: i32 = -110;
+
 const NOT_EMPTY: i32 = -111;
 
 // What no count of a node passes.
@@ -71,7 +77,12 @@ impl Held {
     }
 
     // The row of a request that is neither refused nor create.
-    pub(crate) fn serve(&mut self, alloc: Global, at: &Moment, request: &Request) -> Result<Outcome, Memory>
+    pub(crate) fn serve(
+        &mut self,
+        alloc: Global,
+        at: &Moment,
+        request: &Request,
+    ) -> Result<Outcome, Memory>
         requires short { HasShortParts request.now }
         ensures { (naming : Naming) (c : ℕ) (s : State) (x : PlainSession) (command : Command) → Means self.old s → IsMoment s at.now → session_at at.now.session s.sessions ≡ Some x
             → IsServed request.now → IsOther request.now → Refuses request.now None → Asks request.now command
@@ -142,7 +153,12 @@ impl Held {
     }
 
     // getChildren, and with a Stat getChildren2.
-    pub(crate) fn children_at(&self, alloc: Global, path: &str, with_stat: bool) -> Result<Outcome, Memory>
+    pub(crate) fn children_at(
+        &self,
+        alloc: Global,
+        path: &str,
+        with_stat: bool,
+    ) -> Result<Outcome, Memory>
         ensures { IfOk result (λ outcome. (naming : Naming) (at : At) (c : ℕ) (s : State) (p : Path) → Means self.now s → IsTextOf path.now p
             → Tells s (answer naming at c s (get_children p false with_stat)) outcome) }
     {
@@ -175,7 +191,14 @@ impl Held {
     }
 
     // The rest of create: makes the node at the path with this text, under a parent that may have it.
-    pub(crate) fn create(&mut self, alloc: Global, path: &str, content: &Option<Bytes>, ephemeral: bool, at: &Moment) -> Result<OpResult, NotDone>
+    pub(crate) fn create(
+        &mut self,
+        alloc: Global,
+        path: &str,
+        content: &Option<Bytes>,
+        ephemeral: bool,
+        at: &Moment,
+    ) -> Result<OpResult, NotDone>
         requires short { IsShortContent content.now }
         ensures { (naming : Naming) (s : State) (p : Path) (n m : List ℕ) (sequential : Bool) (up : Node) → Means self.old s → IsTextOf path.now (m ∷ p)
             → IsMoment s at.now → IsParent s p up → name_for naming p n sequential up ≡ Some m
@@ -201,7 +224,12 @@ impl Held {
     }
 
     // delete. Takes no memory.
-    pub(crate) fn delete(&mut self, path: &str, version: i32, at: &Moment) -> Result<OpResult, NotDone>
+    pub(crate) fn delete(
+        &mut self,
+        path: &str,
+        version: i32,
+        at: &Moment,
+    ) -> Result<OpResult, NotDone>
         ensures { (naming : Naming) (s : State) (n : List ℕ) (p : Path) → Means self.old s → IsTextOf path.now (n ∷ p) → IsMoment s at.now
             → Performs s (perform naming at.now s (delete (n ∷ p) version)) self.new result }
     {
@@ -231,7 +259,12 @@ impl Held {
     }
 
     // setData.
-    pub(crate) fn set_content(&mut self, alloc: Global, asked: &SetContentRequest, at: &Moment) -> Result<OpResult, NotDone>
+    pub(crate) fn set_content(
+        &mut self,
+        alloc: Global,
+        asked: &SetContentRequest,
+        at: &Moment,
+    ) -> Result<OpResult, NotDone>
         requires short { IsShortContent asked.now.content }
         ensures { (naming : Naming) (s : State) (p : Path) → Means self.old s → IsTextOf asked.now.path p → IsMoment s at.now
             → Performs s (perform naming at.now s (set_content p asked.now.content asked.now.version)) self.new result }

@@ -58,7 +58,10 @@ impl Node {
     pub(crate) fn stat(&self) -> Stat
         ensures { IsSmall self.now → result ≡ kept_stat self.now }
     {
-        let changes = self.numbers.creations.saturating_add(self.numbers.deletions);
+        let changes = self
+            .numbers
+            .creations
+            .saturating_add(self.numbers.deletions);
         let length = match &self.content {
             Some(content) => content.len(),
             None => 0,

@@ -55,21 +55,37 @@ impl<N: Numberer + Drop> Tree<N> {
     ///
     /// # Errors
     /// `Memory`; then the tree is as it was.
-    pub fn connect(&mut self, alloc: Global, now: i64, connection: u32, asked: &ConnectRequest, fresh: i64, password: [u8; 16]) -> Result<Outputs, Memory>
+    pub fn connect(
+        &mut self,
+        alloc: Global,
+        now: i64,
+        connection: u32,
+        asked: &ConnectRequest,
+        fresh: i64,
+        password: [u8; 16],
+    ) -> Result<Outputs, Memory>
         requires last { self.old.held.last <ℤ pos (2 ^ 63 - 1) }
         ensures step { IfOk result (λ outputs. (naming : Naming) (s : State) → Means self.old.held s → CanConnect s connection fresh
             → Does naming s (connects connection asked.now (given_to s.sessions asked.now fresh password) now) self.new.held outputs) }
         ensures memory { OnErr result (Stays self.old.held self.new.held) }
         ensures numberer { self.new.numberer ≡ self.old.numberer }
     {
-        self.held.connect(alloc, now, connection, asked, fresh, password)
+        self.held
+            .connect(alloc, now, connection, asked, fresh, password)
     }
 
     /// Answers a request of a connection; errors of the protocol are answers. A connection without a session is not answered.
     ///
     /// # Errors
     /// `Memory`; then the tree is as it was, but its numberer may have given a number.
-    pub fn apply(&mut self, alloc: Global, now: i64, connection: u32, xid: i32, request: &Request) -> Result<Outputs, Memory>
+    pub fn apply(
+        &mut self,
+        alloc: Global,
+        now: i64,
+        connection: u32,
+        xid: i32,
+        request: &Request,
+    ) -> Result<Outputs, Memory>
         requires last { self.old.held.last <ℤ pos (2 ^ 63 - 1) }
         requires short { HasShortParts request.now }
         requires served { IsServed request.now }
@@ -124,7 +140,12 @@ impl<N: Numberer + Drop> Tree<N> {
     }
 
     // The row of create.
-    fn create(&mut self, alloc: Global, asked: &CreateRequest, at: &Moment) -> Result<Outcome, Memory>
+    fn create(
+        &mut self,
+        alloc: Global,
+        asked: &CreateRequest,
+        at: &Moment,
+    ) -> Result<Outcome, Memory>
         requires path { IsShort asked.now.path }
         requires content { IsShortContent asked.now.content }
         ensures answers { (naming : Naming) (c : ℕ) (s : State) (p : Path) (n : List ℕ) (content : Option (List ℕ)) (sequential ephemeral : Bool) → Means self.old.held s → IsMoment s at.now
@@ -138,7 +159,9 @@ impl<N: Numberer + Drop> Tree<N> {
             Err(code) => return Ok(Outcome::Error { code }),
         };
         let Some(path) = self.name(alloc, asked, creations)? else {
-            return Ok(Outcome::Error { code: BAD_ARGUMENTS });
+            return Ok(Outcome::Error {
+                code: BAD_ARGUMENTS,
+            });
         };
         let ephemeral = is_ephemeral(asked);
         alone(
@@ -148,7 +171,12 @@ impl<N: Numberer + Drop> Tree<N> {
     }
 
     // The path of a new node; None where the numberer has no name.
-    fn name(&mut self, alloc: Global, asked: &CreateRequest, creations: u32) -> Result<Option<Text>, Memory>
+    fn name(
+        &mut self,
+        alloc: Global,
+        asked: &CreateRequest,
+        creations: u32,
+    ) -> Result<Option<Text>, Memory>
         requires path { IsShort asked.now.path }
         requires room { creations < greatest_int }
         ensures named { IfOk result (λ path. (naming : Naming) (p : Path) (n : List ℕ) (content : Option (List ℕ)) (sequential ephemeral : Bool)

@@ -1,4 +1,4 @@
-use Rattle.std.proofs.Common.{◌≡◌, ℤ, Option, Some, None, sym, subst, rules, w32}
+use Rattle.std.proofs.Common.{◌≡◌, ℤ, Option, None, subst, rules, w32}
 use Rattle.std.specs.Int.RustNames.{FitsSigned}
 use Rattle.std.proofs.lemmas.Int.{to_z-of_z}
 use Rattle.zk_messages.specs.Refuses.{Refuses}
@@ -27,12 +27,12 @@ returns-in-Some-clause-answers g c = λ naming k s x command m im live sv nm a.
 pub returns-in-Create-clause-answers : goal.returns-in-Create-clause-answers
 returns-in-Create-clause-answers g c = λ naming k s x command m im live sv nm a.
     create_answers naming c.args.at.now k s c.create.new.self.held c.args.request.now c.in-Create.asked command _ c.in-Create.is (not_refused _ _ c.in_default.is c.refusal_of.ensures) a
-      (λ p n d q e h. c.create.ensures.answers naming k s p n d q e m im nm h)
+    (λ p n d q e h. c.create.ensures.answers naming k s p n d q e m im nm h)
 
 pub returns-in_default-request : goal.returns-in_default-request
 returns-in_default-request g c = record {
   answers = λ naming k s x command m im live sv nm a.
       let plain = not_refused _ _ c.in_default.is c.refusal_of.ensures in
       c.serve.ensures naming k s x command m im live sv (other c.args.request.now c.in_default-request.not-Create) plain (asked_plain c.args.request.now command plain a);
-  names = λ stem number text. (λ h. h, λ h. h)
+  names = λ stem number text. (λ h. h, λ h. h);
 }

@@ -10,4 +10,4 @@ returns-clause-step g c = λ naming s x m live.
     let f : FitsSigned w64 c.args.session = search rules in
     let t : FitsSigned w64 c.args.now = search rules in
     subst (λ (outputs : List Output). Does naming s (expires c.args.session c.args.now) c.expire.new.self outputs) (sym (c.of.ensures ∙ c.new.ensures.items))
-      ((simp to_z-of_z at c.expire.ensures) naming s x m live)
+    ((simp to_z-of_z at c.expire.ensures) naming s x m live)

@@ -1,5 +1,5 @@
-use Rattle.std.proofs.Common.{◌≡◌, ℕ, List, [], ◌∷◌, Err, sym, ap, subst, ◌∙◌, arith, w32}
-use Rattle.std.specs.Prelude.{pos, unsigned_abs}
+use Rattle.std.proofs.Common.{◌≡◌, ℕ, List, Err, sym, ap, subst, ◌∙◌, arith, w32}
+use Rattle.std.specs.Prelude.{unsigned_abs}
 use Rattle.std.proofs.lemmas.Bool.{both_ways}
 use Rattle.std.proofs.lemmas.Int.{to_z_pos}
 use Rattle.tree_state.proofs.Names.{named_plainly, named_by_number, not_named}
@@ -16,10 +16,10 @@ returns-then-not-is_sequential-clause-named g c = λ naming p n d q e k h.
 pub returns-in-Ok-clause-named : goal.returns-in-Ok-clause-named
 returns-in-Ok-clause-named g c = λ naming p n d q e k h.
     named_by_number (g.N.Numberer.named c.args.self.now.numberer) (g.met.N.Numberer.keeps c.args.self.now.numberer, g.met.N.Numberer.one c.args.self.now.numberer) naming c.args.asked.now p n d q e c.args.creations c.in-Ok.text k h
-      (c.is_sequential.ensures.0 c.if-not-is_sequential.false)
-      (own_name (g.N.Numberer.named c.args.self.now.numberer) c.args.asked.now.path c.as_str-path.result.now _ _ c.in-Ok.text c.as_str-path.ensures (ap unsigned_abs (to_z_pos w32 c.args.creations (omega (arith, c.requires.room)))) c.in-Ok.ensures.named)
+    (c.is_sequential.ensures.0 c.if-not-is_sequential.false)
+    (own_name (g.N.Numberer.named c.args.self.now.numberer) c.args.asked.now.path c.as_str-path.result.now _ _ c.in-Ok.text c.as_str-path.ensures (ap unsigned_abs (to_z_pos w32 c.args.creations (omega (arith, c.requires.room)))) c.in-Ok.ensures.named)
 
 pub returns-in-Err-CannotOpen-clause-named : goal.returns-in-Err-CannotOpen-clause-named
 returns-in-Err-CannotOpen-clause-named g c = λ naming p n d q e k h.
     not_named (g.N.Numberer.named c.args.self.now.numberer) naming c.args.asked.now p n d q e c.args.creations k h (c.is_sequential.ensures.0 c.if-not-is_sequential.false)
-      (λ text x. c.in-Err-CannotOpen.ensures.cannot_open (ap Err c.in-Err-CannotOpen.field-0-is) text (own_name (g.N.Numberer.named c.args.self.now.numberer) c.as_str-path.result.now c.args.asked.now.path _ _ text (sym c.as_str-path.ensures) (sym (ap unsigned_abs (to_z_pos w32 c.args.creations (omega (arith, c.requires.room))))) x))
+    (λ text x. c.in-Err-CannotOpen.ensures.cannot_open (ap Err c.in-Err-CannotOpen.field-0-is) text (own_name (g.N.Numberer.named c.args.self.now.numberer) c.as_str-path.result.now c.args.asked.now.path _ _ text (sym c.as_str-path.ensures) (sym (ap unsigned_abs (to_z_pos w32 c.args.creations (omega (arith, c.requires.room))))) x))
