@@ -1,7 +1,8 @@
 -- A run of the plain machine over items of the first form.
-use Rattle.std.proofs.Common.{◌≡◌, ℕ, ℤ, pos, List, [], ◌∷◌, ◌++◌, length, Some, refl, sym, ap, subst, arith}
-use Rattle.std.specs.Prelude.{if◌then◌else◌, ◌≤ℤ◌, ◌==◌, IsSome}
+use Rattle.std.proofs.Common.{◌≡◌, ℕ, ℤ, pos, List, [], ◌∷◌, ◌++◌, length, false, refl, inr, ◌∙◌, sym, ap, subst, arith}
+use Rattle.std.specs.Prelude.{if◌then◌else◌, ◌≤ℤ◌, ◌==◌, codes}
 use Rattle.std.proofs.lemmas.Int.{ints}
+use Rattle.std.proofs.lemmas.List.Elements.{All-nil}
 use Rattle.zk_records.specs.declared.connect.ConnectRequest.{ConnectRequest}
 use Rattle.zk_records.specs.declared.path_watch.PathWatch.{PathWatch}
 use Rattle.world_core.specs.declared.entry.Entry.{Entry}
@@ -9,89 +10,131 @@ use Rattle.zk_messages.specs.declared.request.Request.{Request}
 use Rattle.zk_messages.specs.declared.request.Request.TheVariants.{Exists, Ping, Close}
 use Rattle.zk_messages.specs.declared.request.Item.{Item}
 use Rattle.zk_messages.specs.declared.request.Item.TheVariants.{Asks, Requests}
-use Rattle.world_core.specs.declared.message.Message.{Message}
-use Rattle.world_core.specs.State.{State, start, session_of}
-use Rattle.world_core.specs.Step.{Next, answer, step, outputs, to_connection, out}
-use Rattle.world_core.specs.Order.{clamped, IsNext, LegalFrom, HasNoConnect, ConnectsOnce, Legal}
+use Rattle.zk_messages.specs.Refuses.{Refuses, Rule}
+use Rattle.zk_path.specs.Paths.{IsComponent, text_of}
+use Rattle.tree_state.specs.declared.message.Message.{Message}
+use Rattle.tree_state.specs.State.{State, start_at, start, session_of, has_connection}
+use Rattle.tree_state.specs.Commands.{Command, IsCommand, Asks as Commands, stat_at, ping, close}
+use Rattle.tree_state.specs.Step.{Act, asks, Next, clamped, given_to, step}
+use Rattle.world_core.specs.Plain.{plain}
+use Rattle.world_core.specs.Acts.{IsAsked, AreActs}
+use Rattle.world_core.specs.Out.{outputs, to_connection, out}
+use Rattle.world_core.specs.Order.{HasSession, MayCome, zxid_after, LegalFrom, HasNoConnect, ConnectsOnce, Legal}
 use Rattle.world_core.specs.Fill.{fill, filled, without_first}
 use Rattle.world_core.specs.Veiled.{VeilsItems, VeilsOrder}
 use Rattle.world_core.specs.FirstForm.{IsFirstConnect, AreFirstRequests, AreFirst}
 use Rattle.world_core.specs.Headline.{passwords, AreAt}
-use Rattle.world_core.specs.FirstOrder.{entry_of, message_of, order_of, messages_of}
-use Rattle.world_core.proofs.Steps.{opened, closed, next_of, connect_step, exists_step, ping_step, close_step}
+use Rattle.world_core.specs.FirstOrder.{entry_of, act_of, message_of, order_of, acts_of, messages_of}
+use Rattle.world_core.proofs.Steps.{opened, ended, next_of, connect_step, exists_step, ping_step, close_step}
+
+-- What requests of the first form are to the machine
+
+exists_command : (asked : PathWatch) → asked.path ≡ codes "/" → asked.watch ≡ false → IsCommand (Exists asked) (stat_at [] false)
+unfolding IsCommand Commands Refuses Rule text_of
+exists_command asked path watch = inr (inr (λ never. never ([], All-nil IsComponent, path), refl), (record { legal = All-nil IsComponent; spelled = path }, watch))
+
+ping_command : IsCommand Ping ping
+unfolding IsCommand Commands Refuses
+ping_command = inr (refl, tt)
+
+close_command : IsCommand Close close
+unfolding IsCommand Commands Refuses
+close_command = inr (refl, tt)
+
+asked_as : (xid : ℤ) (request : Request) (command : Command) → IsCommand request command → IsAsked 1 xid request (pos 0) (asks 1 xid command (pos 0))
+asked_as xid request command h = record { command = command; is_command = h; is = refl }
+
+requests_acts : (items : List Item) → AreFirstRequests items → AreActs (order_of items) (acts_of items)
+unfolding AreFirstRequests order_of acts_of
+requests_acts [] h = tt
+requests_acts (Asks asked ∷ items) h = absurd h
+requests_acts (Requests xid (Exists asked) ∷ items) h = (asked_as xid _ _ (exists_command asked h.0.0 h.0.1), requests_acts items h.1)
+requests_acts (Requests xid Ping ∷ items) h = (asked_as xid _ _ ping_command, requests_acts items h.1)
+requests_acts (Requests xid Close ∷ items) h = (asked_as xid _ _ close_command, requests_acts items (subst AreFirstRequests (sym h) tt))
+requests_acts (Requests xid request ∷ items) h = absurd h.0
 
 -- One more entry
 
-legal_more : (s t : State) (item : Item) (es : List Entry) → step s (entry_of item) ≡ next_of t item → IsNext passwords s (entry_of item)
-    → LegalFrom passwords t es → LegalFrom passwords s (entry_of item ∷ es)
+-- one step, from a state in which the entry may come
+record Steps (s t : State) (item : Item) : Type 0 where
+  step : step plain s (act_of item) ≡ next_of t item
+  may : MayCome passwords s (entry_of item)
+  last_is : zxid_after (entry_of item) ≡ t.last
+
+legal_more : (s t : State) (item : Item) (es : List Entry) (acts : List Act) → Steps s t item → LegalFrom plain passwords t es acts
+    → LegalFrom plain passwords s (entry_of item ∷ es) (act_of item ∷ acts)
 unfolding LegalFrom
-legal_more s t item es e next h = (next, subst (λ (n : Next). LegalFrom passwords n.state es) (sym e) h)
+legal_more s t item es acts one h = (
+  record { may = one.may; last_is = one.last_is ∙ sym (ap (λ (n : Next). n.state.last) one.step) },
+  subst (λ (n : Next). LegalFrom plain passwords n.state es acts) (sym one.step) h,
+)
 
-output_more : (t : State) (item : Item) (n : Next) (es : List Entry) (ms : List Message) → n ≡ next_of t item → to_connection 1 (outputs t es) ≡ ms
-    → to_connection 1 (n.outputs ++ outputs n.state es) ≡ message_of item ∷ ms
+output_more : (t : State) (item : Item) (n : Next) (acts : List Act) (ms : List Message) → n ≡ next_of t item → to_connection 1 (outputs plain t acts) ≡ ms
+    → to_connection 1 (n.outputs ++ outputs plain n.state acts) ≡ message_of item ∷ ms
 unfolding to_connection
-output_more t item n es ms e h = rw e (ap (λ (l : List Message). message_of item ∷ l) h)
+output_more t item n acts ms e h = rw e (ap (λ (l : List Message). message_of item ∷ l) h)
 
-outputs_more : (s t : State) (item : Item) (es : List Entry) (ms : List Message) → step s (entry_of item) ≡ next_of t item → to_connection 1 (outputs t es) ≡ ms
-    → to_connection 1 (outputs s (entry_of item ∷ es)) ≡ message_of item ∷ ms
+outputs_more : (s t : State) (item : Item) (acts : List Act) (ms : List Message) → Steps s t item → to_connection 1 (outputs plain t acts) ≡ ms
+    → to_connection 1 (outputs plain s (act_of item ∷ acts)) ≡ message_of item ∷ ms
 unfolding outputs
-outputs_more s t item es ms e h = output_more t item (step s (entry_of item)) es ms e h
+outputs_more s t item acts ms one h = output_more t item (step plain s (act_of item)) acts ms one.step h
 
-last_of : (s t : State) (item : Item) → step s (entry_of item) ≡ next_of t item → (step s (entry_of item)).state.last ≡ t.last
-last_of s t item e = ap (λ (n : Next). n.state.last) e
+-- Each step of a run
 
--- a request that comes in a session, and is one that the machine answers
-abbrev HasAnswer : ℤ → Request → Type 0
-HasAnswer timeout request = (session : ℤ) × (session_of 1 (opened timeout).sessions ≡ Some session) × IsSome (answer 1 session (opened timeout) request)
+has_session : (timeout : ℤ) → HasSession (opened timeout) 1
+unfolding session_of has_connection
+has_session timeout = record { session = pos 1; live = refl }
+
+exists_steps : (timeout xid : ℤ) (asked : PathWatch) → Steps (opened timeout) (opened timeout) (Requests xid (Exists asked))
+exists_steps timeout xid asked = record { step = exists_step timeout xid asked; may = has_session timeout; last_is = refl }
+
+ping_steps : (timeout xid : ℤ) → Steps (opened timeout) (opened timeout) (Requests xid Ping)
+ping_steps timeout xid = record { step = ping_step timeout xid; may = has_session timeout; last_is = refl }
+
+close_steps : (timeout xid : ℤ) → Steps (opened timeout) ended (Requests xid Close)
+close_steps timeout xid = record { step = close_step timeout xid; may = has_session timeout; last_is = refl }
+
+first_may : (asked : ConnectRequest) → IsFirstConnect asked → MayCome passwords start (entry_of (Asks asked))
+unfolding start_at given_to
+first_may asked h = record { seen = subst (λ (z : ℤ). z ≤ℤ pos 0) (sym h.1) (omega (arith, ints)); given_is = rw h.2 refl }
+
+connect_steps : (asked : ConnectRequest) → IsFirstConnect asked → Steps start (opened (clamped asked.timeout)) (Asks asked)
+connect_steps asked h = record { step = connect_step asked; may = first_may asked h; last_is = refl }
 
 -- Requests in an open session
 
-exists_next : (timeout : ℤ) (asked : PathWatch) → HasAnswer timeout (Exists asked)
-unfolding answer session_of
-exists_next timeout asked = (pos 1, refl, refl)
-
-ping_next : (timeout : ℤ) → HasAnswer timeout Ping
-unfolding answer session_of
-ping_next timeout = (pos 1, refl, refl)
-
-close_next : (timeout : ℤ) → HasAnswer timeout Close
-unfolding answer session_of
-close_next timeout = (pos 1, refl, refl)
-
-legal_none : (s : State) → LegalFrom passwords s (order_of [])
-unfolding LegalFrom order_of
+legal_none : (s : State) → LegalFrom plain passwords s (order_of []) (acts_of [])
+unfolding LegalFrom order_of acts_of
 legal_none s = tt
 
-requests_legal : (timeout : ℤ) (items : List Item) → AreFirstRequests items → LegalFrom passwords (opened timeout) (order_of items)
-unfolding AreFirstRequests order_of
+requests_legal : (timeout : ℤ) (items : List Item) → AreFirstRequests items → LegalFrom plain passwords (opened timeout) (order_of items) (acts_of items)
+unfolding AreFirstRequests order_of acts_of
 requests_legal timeout [] h = legal_none (opened timeout)
 requests_legal timeout (Asks asked ∷ items) h = absurd h
 requests_legal timeout (Requests xid (Exists asked) ∷ items) h =
-    let e = exists_step timeout xid asked h.0.0 h.0.1 in
-    legal_more (opened timeout) (opened timeout) (Requests xid (Exists asked)) (order_of items) e (exists_next timeout asked, sym (last_of _ _ (Requests xid (Exists asked)) e)) (requests_legal timeout items h.1)
+    legal_more (opened timeout) (opened timeout) (Requests xid (Exists asked)) (order_of items) (acts_of items) (exists_steps timeout xid asked) (requests_legal timeout items h.1)
 requests_legal timeout (Requests xid Ping ∷ items) h =
-    let e = ping_step timeout xid in
-    legal_more (opened timeout) (opened timeout) (Requests xid Ping) (order_of items) e (ping_next timeout, sym (last_of _ _ (Requests xid Ping) e)) (requests_legal timeout items h.1)
+    legal_more (opened timeout) (opened timeout) (Requests xid Ping) (order_of items) (acts_of items) (ping_steps timeout xid) (requests_legal timeout items h.1)
 requests_legal timeout (Requests xid Close ∷ items) h =
-    let e = close_step timeout xid in
-    legal_more (opened timeout) closed (Requests xid Close) (order_of items) e (close_next timeout, sym (last_of _ _ (Requests xid Close) e)) (subst (λ (is : List Item). LegalFrom passwords closed (order_of is)) (sym h) (legal_none closed))
+    legal_more (opened timeout) ended (Requests xid Close) (order_of items) (acts_of items) (close_steps timeout xid)
+    (subst (λ (is : List Item). LegalFrom plain passwords ended (order_of is) (acts_of is)) (sym h) (legal_none ended))
 requests_legal timeout (Requests xid request ∷ items) h = absurd h.0
 
-no_outputs : (s : State) → to_connection 1 (outputs s (order_of [])) ≡ messages_of []
-unfolding outputs to_connection order_of messages_of
+no_outputs : (s : State) → to_connection 1 (outputs plain s (acts_of [])) ≡ messages_of []
+unfolding outputs to_connection acts_of messages_of
 no_outputs s = refl
 
-requests_outputs : (timeout : ℤ) (items : List Item) → AreFirstRequests items → to_connection 1 (outputs (opened timeout) (order_of items)) ≡ messages_of items
-unfolding AreFirstRequests order_of messages_of
+requests_outputs : (timeout : ℤ) (items : List Item) → AreFirstRequests items → to_connection 1 (outputs plain (opened timeout) (acts_of items)) ≡ messages_of items
+unfolding AreFirstRequests acts_of messages_of
 requests_outputs timeout [] h = no_outputs (opened timeout)
 requests_outputs timeout (Asks asked ∷ items) h = absurd h
 requests_outputs timeout (Requests xid (Exists asked) ∷ items) h =
-    outputs_more (opened timeout) (opened timeout) (Requests xid (Exists asked)) (order_of items) (messages_of items) (exists_step timeout xid asked h.0.0 h.0.1) (requests_outputs timeout items h.1)
+    outputs_more (opened timeout) (opened timeout) (Requests xid (Exists asked)) (acts_of items) (messages_of items) (exists_steps timeout xid asked) (requests_outputs timeout items h.1)
 requests_outputs timeout (Requests xid Ping ∷ items) h =
-    outputs_more (opened timeout) (opened timeout) (Requests xid Ping) (order_of items) (messages_of items) (ping_step timeout xid) (requests_outputs timeout items h.1)
+    outputs_more (opened timeout) (opened timeout) (Requests xid Ping) (acts_of items) (messages_of items) (ping_steps timeout xid) (requests_outputs timeout items h.1)
 requests_outputs timeout (Requests xid Close ∷ items) h =
-    outputs_more (opened timeout) closed (Requests xid Close) (order_of items) (messages_of items) (close_step timeout xid)
-    (subst (λ (is : List Item). to_connection 1 (outputs closed (order_of is)) ≡ messages_of is) (sym h) (no_outputs closed))
+    outputs_more (opened timeout) ended (Requests xid Close) (acts_of items) (messages_of items) (close_steps timeout xid)
+    (subst (λ (is : List Item). to_connection 1 (outputs plain ended (acts_of is)) ≡ messages_of is) (sym h) (no_outputs ended))
 requests_outputs timeout (Requests xid request ∷ items) h = absurd h.0
 
 requests_connect_not : (items : List Item) → AreFirstRequests items → HasNoConnect 1 (order_of items) × ConnectsOnce (order_of items)
@@ -103,25 +146,22 @@ requests_connect_not (Requests xid request ∷ items) h = requests_connect_not i
 
 -- The whole run
 
-connect_next : (asked : ConnectRequest) → IsFirstConnect asked → IsNext passwords start (entry_of (Asks asked))
-unfolding start step
-connect_next asked h = (h.2, subst (λ (z : ℤ). z ≤ℤ pos 0) (sym h.1) (omega (arith, ints)), refl, refl, refl, refl)
-
-pub run_legal : (items : List Item) → AreFirst items → Legal passwords (order_of items)
-unfolding AreFirst order_of ConnectsOnce
-run_legal [] h = record { steps = legal_none start; once = tt }
+pub run_legal : (items : List Item) → AreFirst items → Legal plain passwords (order_of items) (acts_of items)
+unfolding AreFirst order_of acts_of ConnectsOnce
+run_legal [] h = record { are_acts = tt; steps = legal_none start; once = tt }
 run_legal (Requests xid request ∷ items) h = absurd h
 run_legal (Asks asked ∷ items) h = record {
-  steps = legal_more start (opened (clamped asked.timeout)) (Asks asked) (order_of items) (connect_step asked) (connect_next asked h.0) (requests_legal (clamped asked.timeout) items h.1);
+  are_acts = (refl, requests_acts items h.1);
+  steps = legal_more start (opened (clamped asked.timeout)) (Asks asked) (order_of items) (acts_of items) (connect_steps asked h.0) (requests_legal (clamped asked.timeout) items h.1);
   once = requests_connect_not items h.1;
 }
 
-pub run_outputs : (items : List Item) → AreFirst items → out (order_of items) 1 ≡ messages_of items
-unfolding AreFirst order_of messages_of
+pub run_outputs : (items : List Item) → AreFirst items → out plain (acts_of items) 1 ≡ messages_of items
+unfolding AreFirst acts_of messages_of
 run_outputs [] h = no_outputs start
 run_outputs (Requests xid request ∷ items) h = absurd h
 run_outputs (Asks asked ∷ items) h =
-    outputs_more start (opened (clamped asked.timeout)) (Asks asked) (order_of items) (messages_of items) (connect_step asked) (requests_outputs (clamped asked.timeout) items h.1)
+    outputs_more start (opened (clamped asked.timeout)) (Asks asked) (acts_of items) (messages_of items) (connect_steps asked h.0) (requests_outputs (clamped asked.timeout) items h.1)
 
 -- What was sent in place of what was handed on
 

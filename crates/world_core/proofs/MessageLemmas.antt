@@ -14,8 +14,7 @@ use Rattle.zk_records.specs.Connect.{older_response, SpellsConnected}
 use Rattle.zk_records.specs.Headers.{reply_header}
 use Rattle.zk_records.specs.Stats.{stat, stat_fields}
 use Rattle.zk_records.specs.declared.stat.Stat.{Stat}
-use Rattle.world_core.specs.Order.{clamped}
-use Rattle.world_core.specs.Step.{read_only_of}
+use Rattle.tree_state.specs.Step.{clamped, read_only_of}
 use Rattle.world_core.specs.Messages.{SpellsMessage}
 use Rattle.world_core.specs.Headline.{first_password}
 use Rattle.world_core.specs.FirstOrder.{root_stat, message_of}
@@ -82,6 +81,7 @@ older_size a b c p body h =
     omega (arith, one)
 
 connected_size : (asked : Option Bool) (a b c : ℤ) (p body : List ℕ) → SpellsConnected (record { protocol = a; timeout = b; session = c; password = Some p; read_only = read_only_of asked }) body → length body ≤ 21 + length p
+unfolding read_only_of
 connected_size None a b c p body h = let k = older_size a b c p body h in omega (arith, k)
 connected_size (Some x) a b c p body h =
     let k = pair_size older_response boolean (a, (b, (c, Some p))) false (20 + length p) 1 body (λ y m. older_size a b c p y m) (λ y m. at_most _ _ (boolean_size false y m)) h in

@@ -1,8 +1,8 @@
--- Orders and messages of items that are joined.
+-- Orders, acts and messages of items that are joined.
 use Rattle.std.proofs.Common.{◌≡◌, List, [], ◌∷◌, ◌++◌, refl, ap}
 use Rattle.world_core.specs.declared.entry.Entry.{Entry}
 use Rattle.zk_messages.specs.declared.request.Item.{Item}
-use Rattle.world_core.specs.declared.message.Message.{Message}
+use Rattle.tree_state.specs.declared.message.Message.{Message}
 use Rattle.world_core.specs.FirstOrder.{entry_of, message_of, order_of, messages_of}
 
 pub order_of-append : (a b : List Item) → order_of (a ++ b) ≡ order_of a ++ order_of b

@@ -8,18 +8,18 @@ use Rattle.world_core.specs.declared.entry.Entry.{Entry}
 use Rattle.zk_messages.specs.declared.request.Request.TheVariants.{Close}
 use Rattle.zk_messages.specs.declared.request.Item.{Item}
 use Rattle.zk_messages.specs.declared.request.Item.TheVariants.{Asks, Requests}
-use Rattle.world_core.specs.declared.message.Message.{Message}
+use Rattle.tree_state.specs.declared.message.Message.{Message}
 use Rattle.world_core.specs.declared.form.Stage.{Stage}
 use Rattle.world_core.specs.declared.form.Stage.TheVariants.{Fresh, Closed}
 use Rattle.zk_messages.specs.Items.{IsItem}
 use Rattle.zk_messages.specs.Sent.{client_limit, Items, is_first, HasNoFrame}
 use Rattle.world_core.specs.Messages.{SpellsMessage, Messages}
-use Rattle.world_core.specs.Step.{out}
+use Rattle.world_core.specs.Plain.{plain}
 use Rattle.world_core.specs.Order.{Legal}
 use Rattle.world_core.specs.Fill.{fill, sent_by_first}
 use Rattle.world_core.specs.Veiled.{VeilsOrder}
 use Rattle.world_core.specs.FirstForm.{AreFirstRequests, AreFirst, IsFirstForm, frame_limit}
-use Rattle.world_core.specs.FirstOrder.{entry_of, message_of, order_of, messages_of}
+use Rattle.world_core.specs.FirstOrder.{entry_of, message_of, order_of, acts_of, messages_of}
 use Rattle.world_core.specs.declared.runs.World.{World}
 use Rattle.world_core.specs.Taking.{TakesFrame}
 use Rattle.world_core.specs.Stages.{is_fresh, MayFollow, stage_after, AllFollow, FormFrom}
@@ -199,11 +199,13 @@ headline sent drained left stage frames order received handed closed g none form
       whole = g.spelled;
       no_frame = no_whole_frame (is_fresh stage) form.items left (drop drained sent) none form.spelled;
       each = ap length g.order_is ∙ run_each g.items;
-      legal = subst (Legal passwords) (sym g.order_is) (run_legal g.items first);
-      filled_legal = subst (Legal passwords) (sym same) (run_legal g.items first);
+      handed_acts = acts_of g.items;
+      legal = subst (λ (es : List Entry). Legal plain passwords es (acts_of g.items)) (sym g.order_is) (run_legal g.items first);
+      acts = acts_of g.items;
+      filled_legal = subst (λ (es : List Entry). Legal plain passwords es (acts_of g.items)) (sym same) (run_legal g.items first);
       veils = subst (λ (es : List Entry). VeilsOrder es order) (sym same) (subst (VeilsOrder (order_of g.items)) (sym g.order_is) (run_veils g.items first).0);
       at_start = subst (AreAt (pos 0)) (sym g.order_is) (run_at_start g.items);
-      received_is = subst (λ (es : List Entry). Messages (out es 1) received) (sym same) (subst (λ (ms : List Message). Messages ms received) (sym (run_outputs g.items first)) g.received_is);
+      received_is = subst (λ (ms : List Message). Messages ms received) (sym (run_outputs g.items first)) g.received_is;
       handed_is = record { veiled = g.items; each = (run_veils g.items first).1; spelled = g.handed_is };
       all_taken = λ e.
           let none_left : drop drained sent ≡ [] = all_drained sent drained e in

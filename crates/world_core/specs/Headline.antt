@@ -2,6 +2,7 @@
 -- one order in which the store took the requests, and the bytes handed to the store are those requests, veiled.
 use Rattle.std.specs.Prelude.{◌≡◌, ℕ, ℤ, pos, ◌∷◌, [], ◌++◌, ◌↔◌, List, length, take, Bool, IsTrue, true}
 use Rattle.jute_core.specs.Frames.{IsRest}
+use Rattle.tree_state.specs.Step.{Act}
 use Rattle.world_core.specs.declared.entry.Entry.{Entry}
 use Rattle.world_core.specs.declared.entry.Entry.TheVariants.{Connect, Take}
 use Rattle.zk_messages.specs.declared.request.Item.{Item}
@@ -9,7 +10,8 @@ use Rattle.zk_messages.specs.declared.request.Item.TheVariants.{Requests}
 use Rattle.zk_messages.specs.declared.request.Request.TheVariants.{Close}
 use Rattle.zk_messages.specs.Sent.{Items, Sent}
 use Rattle.world_core.specs.Messages.{Messages}
-use Rattle.world_core.specs.Step.{out}
+use Rattle.world_core.specs.Plain.{plain}
+use Rattle.world_core.specs.Out.{out}
 use Rattle.world_core.specs.Order.{Legal}
 use Rattle.world_core.specs.Fill.{fill, sent_by_first}
 use Rattle.world_core.specs.Veiled.{Veiled, VeilsOrder}
@@ -53,14 +55,17 @@ pub record Headline (sent : List ℕ) (drained : ℕ) (order : List Entry) (rece
   pub rest : List ℕ
   pub whole : Items true taken rest (take drained sent)
   pub no_frame : IsRest rest
-  -- the order has an entry for each of these, and may be the order of a store
+  -- the order has an entry for each of these, and may be the order of a store, which was handed these acts
   pub each : length order ≡ length taken
-  pub legal : Legal passwords order
-  pub filled_legal : Legal passwords (fill order (sent_by_first items))
+  pub handed_acts : List Act
+  pub legal : Legal plain passwords order handed_acts
+  -- and so may it be with what the client sent in place of what was handed on, as these acts of the plain machine
+  pub acts : List Act
+  pub filled_legal : Legal plain passwords (fill order (sent_by_first items)) acts
   pub veils : VeilsOrder (fill order (sent_by_first items)) order
   pub at_start : AreAt (pos 0) order
-  -- the client received all that the plain machine sends it over that order
-  pub received_is : Messages (out (fill order (sent_by_first items)) 1) received
+  -- the client received all that the plain machine sends it over these acts
+  pub received_is : Messages (out plain acts 1) received
   -- the store was handed what was taken, veiled
   pub handed_is : Veiled taken handed
   -- and where all was drained, that is all that was sent

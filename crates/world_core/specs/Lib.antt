@@ -1,6 +1,7 @@
 pub mod Messages
-pub mod State
-pub mod Step
+pub mod Plain
+pub mod Acts
+pub mod Out
 pub mod Order
 pub mod Fill
 pub mod Veiled

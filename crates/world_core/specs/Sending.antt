@@ -3,13 +3,14 @@ use Rattle.std.specs.Prelude.{◌≡◌, ℕ, ◌<◌, ◌^◌, List, ◌++◌, 
 use Rattle.jute_core.specs.Frames.{frame, FitsFrame}
 use Rattle.zk_messages.specs.Sending.{IsShortOutcome}
 use Rattle.world_core.specs.Messages.{SpellsMessage}
-use Rattle.world_core.specs.declared.message.Message.{Message}
-use Rattle.world_core.specs.declared.message.Message.TheVariants.{Connected, Reply as Replied}
+use Rattle.tree_state.specs.declared.message.Message.{Message}
+use Rattle.tree_state.specs.declared.message.Message.TheVariants.{Connected, Reply as Replied, Event as Told}
 
 -- lengths and counts are ints, and the code of an error is not 0
 abbrev pub IsSendable : Message → Type 0
 IsSendable (Connected response) = IfSome response.password (λ p. length p < 2 ^ 31)
 IsSendable (Replied reply) = IsShortOutcome reply.outcome
+IsSendable (Told event) = length event.path < 2 ^ 31
 
 -- the frame of a message was added at the end
 pub record AddsFrame (old new : List ℕ) (message : Message) : Type 0 where

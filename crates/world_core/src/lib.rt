@@ -3,11 +3,11 @@
 //! So far there is one connection, which connects, asks for the root, pings and closes its session: `first_run` frames what
 //! the client sent, hands it to a store, and hands the store's answers down. Its contract is the record `Headline` of
 //! `specs/Headline.antt`, which says that the client receives what the plain machine sends it over the order in which the
-//! store took its requests. The definitions behind it have a file each: `State`, `Step`, `Order`, `Fill`, `Veiled`; what a
-//! client's bytes spell is said in `zk_messages` (`Sent`).
+//! store took its requests. The definitions behind it have a file each: `Acts`, `Out`, `Order`, `Fill`, `Veiled`; the machine
+//! is that of `tree_state` (`Step`), and what a client's bytes spell is said in `zk_messages` (`Sent`).
 //!
-//! The crate stands on `zk_messages` for requests and replies, on `zk_records` for the connect records, and on `zk_path`
-//! and `jute_core`. Read `first_run` first, then `Headline`.
+//! The crate stands on `tree_state` for the machine and its messages, on `zk_messages` for requests and replies, on
+//! `zk_records` for the connect records, and on `zk_path` and `jute_core`. Read `first_run` first, then `Headline`.
 #![tactic(auto)]
 
 mod entry;
@@ -18,7 +18,7 @@ mod runs;
 
 pub use entry::{Entries, Entry};
 pub use form::NotFirst;
-pub use message::Message;
+pub use message::write_message;
 pub use runs::{FirstRun, first_run};
 
 #[cfg(test)]

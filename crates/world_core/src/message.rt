@@ -1,4 +1,4 @@
-//! What the store sends to a client.
+//! What the store sends to a client, as bytes.
 
 ghost use Rattle.std.specs.Prelude.{◌≡◌, OnOk, OnErr};
 ghost use Rattle.zk_messages.specs.Sending.{AddsBytes};
@@ -6,28 +6,19 @@ ghost use Rattle.world_core.specs.Messages.{SpellsMessage};
 ghost use Rattle.world_core.specs.Sending.{IsSendable};
 
 use jute_core::Memory;
-use zk_messages::{Reply, write_reply};
-use zk_records::ConnectResponse;
+use tree_state::Message;
+use zk_messages::{write_event, write_reply};
 
-/// A message to a client.
-#[derive(Debug, Drop)]
-pub enum Message {
-    /// The answer to the connect request.
-    Connected(ConnectResponse),
-    /// The answer to a request.
-    Reply(Reply),
-}
-
-impl Message {
-    /// Appends the one spelling; without memory nothing is appended.
-    pub fn write(&self, into: &mut Vec<u8>) -> Result<(), Memory>
-        requires { IsSendable self.now }
-        ensures ok { OnOk result (AddsBytes into.old.items into.new.items (SpellsMessage self.now)) }
-        ensures err { OnErr result (into.new.items ≡ into.old.items) }
-    {
-        match self {
-            Message::Connected(response) => response.write(into),
-            Message::Reply(reply) => write_reply(reply, into),
-        }
+/// Appends the one spelling of a message; without memory nothing is appended.
+#[tactic(auto, unfolding(crate::specs::Messages::SpellsMessage), using(crate::proofs::MessageLemmas::value_added))]
+pub fn write_message(message: &Message, into: &mut Vec<u8>) -> Result<(), Memory>
+    requires { IsSendable message.now }
+    ensures ok { OnOk result (AddsBytes into.old.items into.new.items (SpellsMessage message.now)) }
+    ensures err { OnErr result (into.new.items ≡ into.old.items) }
+{
+    match message {
+        Message::Connected(response) => response.write(into),
+        Message::Reply(reply) => write_reply(reply, into),
+        Message::Event(event) => write_event(event, into),
     }
 }

@@ -5,7 +5,7 @@ ghost use Rattle.zk_messages.specs.declared.request.Item.{Item};
 ghost use Rattle.world_core.specs.declared.form.Stage.TheVariants.{Closed};
 ghost use Rattle.zk_messages.specs.Items.{IsItem};
 ghost use Rattle.zk_messages.specs.Sent.{client_limit};
-ghost use Rattle.world_core.specs.Order.{clamped};
+ghost use Rattle.tree_state.specs.Step.{clamped};
 ghost use Rattle.world_core.specs.Sending.{AddsFrame};
 ghost use Rattle.world_core.specs.FirstForm.{IsFirstForm, frame_limit};
 ghost use Rattle.world_core.specs.FirstOrder.{zxid_of, root_stat, outcome_of, entry_of, message_of};
@@ -16,9 +16,10 @@ ghost use Rattle.world_core.specs.Headline.{first_password, Headline};
 use crate::entry::{Entries, Entry};
 use crate::form::{FRAME_LIMIT, NotFirst, Stage, read_item, stage_after};
 use crate::frames::first_frame;
-use crate::message::Message;
+use crate::message::write_message;
 use jute_core::{Bytes, Memory, put_buffer};
 use std::alloc::Global;
+use tree_state::Message;
 use zk_messages::{Item, Outcome, Reply, Request};
 use zk_records::{ConnectResponse, Stat};
 
@@ -54,6 +55,7 @@ fn password() -> [u8; 16]
 }
 
 // The timeout that is answered.
+#[tactic(auto, unfolding(tree_state::specs::Step::clamped))]
 fn clamped(asked: i32) -> i32
     ensures { result ≡ clamped asked }
 {
@@ -134,6 +136,7 @@ fn entry_of(item: Item) -> Entry
 }
 
 // What an item is answered by.
+#[tactic(auto, unfolding(tree_state::specs::Step::read_only_of))]
 fn message_of(alloc: Global, item: &Item) -> Result<Message, Memory>
     ensures { IfOk result (λ message. message ≡ message_of item.now) }
 {
@@ -162,7 +165,7 @@ fn push_answer(alloc: Global, item: &Item, into: &mut Vec<u8>) -> Result<(), Mem
 {
     let message = message_of(alloc, item)?;
     let mut body = Vec::new(alloc);
-    message.write(&mut body)?;
+    write_message(&message, &mut body)?;
     put_buffer(into, Some(body.as_slice()))?;
     Ok(())
 }

@@ -1,6 +1,9 @@
 use super::*;
+use jute_core::Text;
 use std::alloc::Global;
 use std::test::Fail;
+use tree_state::Message;
+use zk_messages::Event;
 
 const CONNECT: &str =
     "0000002d000000000000000000000000000075300000000000000000000000100000000000000000000000000000000000";
@@ -98,6 +101,22 @@ fn timeouts_are_clamped(rt: HostRuntime) -> Result<(), Fail> {
         )?;
         assert_eq!(rt; run.received.as_slice(), wanted.as_slice());
     }
+    Ok(())
+}
+
+#[test]
+fn an_event_has_the_header_that_clients_know_it_by(rt: HostRuntime) -> Result<(), Fail> {
+    let alloc = rt.alloc();
+    let event = Message::Event(Event {
+        kind: 3,
+        state: 3,
+        path: Text::copy_of(alloc, "/a")?,
+    });
+    let mut written = Vec::new(alloc);
+    write_message(&event, &mut written)?;
+    let header = "ffffffffffffffffffffffff00000000";
+    let wanted = bytes(alloc, &[header, "0000000300000003", "000000022f61"])?;
+    assert_eq!(rt; written.as_slice(), wanted.as_slice());
     Ok(())
 }
 

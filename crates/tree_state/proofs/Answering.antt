@@ -1,0 +1,63 @@
+-- A refused request is answered with its code, and each other one by its row.
+use Rattle.std.proofs.Common.{◌≡◌, ℕ, ℤ, Bool, List, Option, Some, None, Result, Ok, refl, sym, ap, subst, inl, inr}
+use Rattle.jute_core.specs.declared.held.Memory.{Memory}
+use Rattle.zk_records.specs.declared.create.CreateRequest.{CreateRequest}
+use Rattle.zk_messages.specs.Refuses.{Refuses}
+use Rattle.zk_messages.specs.declared.reply.Outcome.{Outcome}
+use Rattle.zk_messages.specs.declared.reply.Outcome.TheVariants as outcomes
+use Rattle.zk_messages.specs.declared.request.Request.{Request}
+use Rattle.zk_messages.specs.declared.request.Request.TheVariants as requests
+use Rattle.zk_messages.proofs.FirstRules.{one_outcome}
+use Rattle.tree_state.specs.declared.held.Held.{Held}
+use Rattle.tree_state.specs.declared.node.Moment.{Moment}
+use Rattle.tree_state.specs.Nodes.{Path}
+use Rattle.tree_state.specs.State.{State}
+use Rattle.tree_state.specs.Commands.{Command, Asks, IsCommand, IsCreate, single, create}
+use Rattle.tree_state.specs.Changes.{Naming}
+use Rattle.tree_state.specs.Step.{answer, with_error}
+use Rattle.tree_state.specs.Trees.{Means, Answers, IsOther}
+
+some_same : (a b : ℤ) → Some a ≡ Some b → a ≡ b
+some_same a b h = cc
+
+some_none : (a : ℤ) → Some a ≡ None → ⊥
+some_none a h = cc
+
+pub refused_answers : (naming : Naming) (at : Moment) (c : ℕ) (s : State) (h : Held) (r : Request) (command : Command) (code : ℤ) → Means h s → Refuses r (Some code) → IsCommand r command
+    → Answers s (answer naming at c s command) h (Ok (outcomes.Error code))
+unfolding IsCommand answer Answers with_error
+refused_answers naming at c s h r command code m f (inl k) =
+    let same = some_same code k.0 (one_outcome r _ _ f k.1) in
+    subst (λ (x : Command). Answers s (answer naming at c s x) h (Ok (outcomes.Error code))) (sym k.2) (ap outcomes.Error same, refl, m)
+refused_answers naming at c s h r command code m f (inr k) = absurd (some_none code (one_outcome r _ _ f k.0))
+
+pub asked_plain : (r : Request) (command : Command) → Refuses r None → IsCommand r command → Asks r command
+unfolding IsCommand
+asked_plain r command f (inl k) = absurd (some_none k.0 (one_outcome r _ _ k.1 f))
+asked_plain r command f (inr k) = k.1
+
+pub record IsCreating (r : CreateRequest) (command : Command) : Type 0 where
+  pub path : Path
+  pub name : List ℕ
+  pub content : Option (List ℕ)
+  pub sequential : Bool
+  pub ephemeral : Bool
+  pub asked : IsCreate r path name content sequential ephemeral
+  pub is : command ≡ single (create path name content sequential ephemeral)
+
+asks_create : (r : CreateRequest) (command : Command) → Asks (requests.Create r) command → IsCreating r command
+unfolding Asks
+asks_create r (single (create p n d q e)) h = record { path = p; name = n; content = d; sequential = q; ephemeral = e; asked = h; is = refl }
+asks_create r command h = absurd h
+
+pub create_answers : (naming : Naming) (at : Moment) (c : ℕ) (s : State) (h : Held) (r : Request) (x : CreateRequest) (command : Command) (result : Result Outcome Memory) → r ≡ requests.Create x → Refuses r None → IsCommand r command
+    → ((p : Path) (n : List ℕ) (d : Option (List ℕ)) (q e : Bool) → IsCreate x p n d q e → Answers s (answer naming at c s (single (create p n d q e))) h result)
+    → Answers s (answer naming at c s command) h result
+create_answers naming at c s h r x command result e f k done =
+    let a = asks_create x command (subst (λ (q : Request). Asks q command) e (asked_plain r command f k)) in
+    subst (λ (y : Command). Answers s (answer naming at c s y) h result) (sym a.is) (done a.path a.name a.content a.sequential a.ephemeral a.asked)
+
+pub other : (r : Request) → ((x : CreateRequest) → r ≡ requests.Create x → ⊥) → IsOther r
+unfolding IsOther
+other (requests.Create x) h = h x refl
+other r h = tt

@@ -1,0 +1,38 @@
+pub mod SamePaths
+pub mod ByteOrder
+pub mod Reorder
+pub mod PathTexts
+pub mod Found
+pub mod Entries
+pub mod Lookups
+pub mod NameSets
+pub mod ChildNames
+pub mod CountedChildren
+pub mod ParentWritten
+pub mod Added
+pub mod Undone
+pub mod Removed
+pub mod Kept
+pub mod Root
+pub mod Copied
+pub mod Rows
+pub mod Reading
+pub mod Owned
+pub mod Changed
+pub mod Alone
+mod SessionLists
+mod SessionMaps
+mod SessionTies
+mod SessionsEnded
+mod SessionsGiven
+mod SessionsKept
+mod SessionsMoved
+mod SessionsOwning
+pub mod Serving
+mod Ended
+mod Connected
+pub mod Names
+pub mod Creating
+pub mod Answering
+pub mod Shorts
+pub mod Applied

@@ -1,0 +1,10 @@
+pub mod Nodes
+pub mod State
+pub mod Commands
+pub mod Changes
+pub mod Step
+pub mod Shuffles
+pub mod Places
+pub mod Sessions
+pub mod Counts
+pub mod Trees

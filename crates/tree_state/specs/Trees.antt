@@ -1,0 +1,161 @@
+-- Which state a tree means, and what its calls do to that state.
+use Rattle.std.specs.Prelude.{◌≡◌, ◌≤ℤ◌, ◌<ℤ◌, ◌≤◌, ℕ, ℤ, pos, List, [], ◌∷◌, length, Bool, true, false, Option, Some, None, Result, Ok, Err, All, IfSome}
+use Rattle.jute_core.specs.declared.held.Memory.{Memory}
+use Rattle.zk_path.specs.Paths.{IsStem, joined, text_of}
+use Rattle.zk_messages.specs.declared.reply.OpResult.{OpResult}
+use Rattle.zk_messages.specs.declared.reply.Outcome.{Outcome}
+use Rattle.zk_messages.specs.declared.request.Op.{Op}
+use Rattle.zk_messages.specs.declared.request.Op.TheVariants as ops
+use Rattle.zk_messages.specs.declared.request.Request.{Request}
+use Rattle.zk_messages.specs.declared.request.Request.TheVariants as requests
+use Rattle.tree_state.specs.declared.held.Held.{Held}
+use Rattle.tree_state.specs.declared.held.NotDone.{NotDone}
+use Rattle.tree_state.specs.declared.held.NotDone.TheVariants as stops
+use Rattle.tree_state.specs.declared.message.Output.{Output}
+use Rattle.tree_state.specs.declared.node.Moment.{Moment}
+use Rattle.tree_state.specs.Nodes.{Path, Node, find, has_children, ephemerals}
+use Rattle.tree_state.specs.State.{State, Session, session_of, next_zxid}
+use Rattle.tree_state.specs.Commands.{IsTextOf, create}
+use Rattle.tree_state.specs.Changes.{Naming, Trial, failed, done, Effect, has_owner, is_at_last, perform}
+use Rattle.tree_state.specs.Step.{Answer, Act, step}
+use Rattle.tree_state.specs.Places.{Holds}
+use Rattle.tree_state.specs.Sessions.{Keeps}
+
+-- a node belongs to no session or to one that was given so far; one that belongs to a session has no children and is not the root
+pub record AreOwned (s : State) : Type 0 where
+  pub given : (p : Path) (n : Node) → find s.nodes p ≡ Some n → n.numbers.owner ≤ℤ s.greatest
+  pub childless : (p : Path) (n : Node) → find s.nodes p ≡ Some n → (n.numbers.owner ≡ pos 0 → ⊥) → has_children p s.nodes ≡ false
+  pub free : (n : Node) → find s.nodes [] ≡ Some n → n.numbers.owner ≡ pos 0
+
+-- the number of a session is above 0 and at most the greatest given
+pub record IsGiven (s : State) (x : Session) : Type 0 where
+  pub above : pos 1 ≤ℤ x.number
+  pub within : x.number ≤ℤ s.greatest
+
+-- what a tree holds means this state
+pub record Means (h : Held) (s : State) : Type 0 where
+  pub places : Holds h.places s.nodes
+  pub sessions : Keeps h.sessions s.sessions (λ session. ephemerals session s.nodes)
+  pub owners : AreOwned s
+  pub numbers : All (IsGiven s) s.sessions
+  pub watches : s.watches ≡ []
+  pub last : h.last ≡ s.last
+
+-- what was held stays held
+abbrev pub Stays : Held → Held → Type 0
+Stays before after = (s : State) → Means before s → Means after s
+
+-- after a step these are its outputs, and what is held means the state after it
+pub record Does (naming : Naming) (s : State) (act : Act) (after : Held) (outputs : List Output) : Type 0 where
+  pub sent : outputs ≡ (step naming s act).outputs
+  pub means : Means after (step naming s act).state
+
+-- the connection has no session, and the number is above those of all sessions so far
+pub record CanConnect (s : State) (connection : ℕ) (fresh : ℤ) : Type 0 where
+  pub free : session_of connection s.sessions ≡ None
+  pub positive : pos 1 ≤ℤ fresh
+  pub above : s.greatest <ℤ fresh
+
+-- the answer leaves this outcome and no events, and what is held means the state after it; without memory all is as it was
+unfoldable pub Answers : State → Answer → Held → Result Outcome Memory → Type 0
+Answers s a after (Ok outcome) = (outcome ≡ a.outcome) × (a.events ≡ []) × Means after a.state
+Answers s a after (Err e) = Means after s
+
+-- the same of an answer that changes nothing
+unfoldable pub Tells : State → Answer → Outcome → Type 0
+Tells s a outcome = (outcome ≡ a.outcome) × (a.events ≡ []) × (a.state ≡ s)
+
+-- a node that may have one more child
+pub record IsParent (s : State) (p : Path) (up : Node) : Type 0 where
+  pub there : find s.nodes p ≡ Some up
+  pub free : has_owner up ≡ false
+  pub room : is_at_last up.numbers.creations ≡ false
+
+-- the checks of create before a name is given: with how many creations it goes on, or the code of an error
+unfoldable pub MayCreate : State → Path → Result ℕ ℤ → Type 0
+MayCreate s p (Ok creations) = (up : Node) × IsParent s p up × (creations ≡ up.numbers.creations)
+MayCreate s p (Err code) = (naming : Naming) (at : Moment) (n : List ℕ) (content : Option (List ℕ)) (sequential ephemeral : Bool)
+    → perform naming at s (create p n content sequential ephemeral) ≡ failed code
+
+-- a change draws the next zxid, and is of a session that was given
+pub record IsMoment (s : State) (at : Moment) : Type 0 where
+  pub next : at.zxid ≡ next_zxid s
+  pub positive : pos 1 ≤ℤ at.session
+  pub given : at.session ≤ℤ s.greatest
+
+-- the same of one change
+unfoldable pub Performs : State → Trial ℤ Effect → Held → Result OpResult NotDone → Type 0
+Performs s (failed code) after (Ok result) = ⊥
+Performs s (done e) after (Ok result) = (result ≡ e.result) × (e.events ≡ []) × Means after e.state
+Performs s (failed code) after (Err (stops.Refused number)) = (number ≡ code) × Means after s
+Performs s (done e) after (Err (stops.Refused number)) = ⊥
+Performs s t after (Err stops.Memory) = Means after s
+
+-- the naming has the numberer's names of legal stems, and no others
+unfoldable pub IsNameOf : (List ℕ → Type 0) → Path → Option (List ℕ) → Type 0
+IsNameOf Named p None = (text : List ℕ) → Named text → ⊥
+IsNameOf Named p (Some m) = Named (text_of (m ∷ p))
+
+pub record IsNaming (named : List ℕ → ℕ → List ℕ → Type 0) (naming : Naming) : Type 0 where
+  pub each : (n : List ℕ) (p : Path) (i : ℕ) → IsStem (n ∷ p) → IsNameOf (named (joined (n ∷ p)) i) p (naming p n i)
+
+-- ---- requests that a tree takes
+
+-- each text and buffer has at most 2 ^ 27 bytes; frames are far shorter
+abbrev pub IsShort : List ℕ → Type 0
+IsShort bytes = length bytes ≤ 134217728
+
+abbrev pub IsShortContent : Option (List ℕ) → Type 0
+IsShortContent content = IfSome content IsShort
+
+abbrev pub AreShort : Option (List (List ℕ)) → Type 0
+AreShort texts = IfSome texts (All IsShort)
+
+unfoldable pub HasShortOpParts : Op → Type 0
+HasShortOpParts (ops.Create r) = IsShort r.path × IsShortContent r.content
+HasShortOpParts (ops.Delete r) = IsShort r.path
+HasShortOpParts (ops.SetContent r) = IsShort r.path × IsShortContent r.content
+HasShortOpParts (ops.Check r) = IsShort r.path
+
+unfoldable pub HasShortParts : Request → Type 0
+HasShortParts (requests.Create r) = IsShort r.path × IsShortContent r.content
+HasShortParts (requests.Delete r) = IsShort r.path
+HasShortParts (requests.Exists r) = IsShort r.path
+HasShortParts (requests.GetContent r) = IsShort r.path
+HasShortParts (requests.SetContent r) = IsShort r.path × IsShortContent r.content
+HasShortParts (requests.GetAcl r) = IsShort r.path
+HasShortParts (requests.SetAcl r) = IsShort r.path
+HasShortParts (requests.GetChildren r) = IsShort r.path
+HasShortParts (requests.GetChildren2 r) = IsShort r.path
+HasShortParts (requests.Sync r) = IsShort r.path
+HasShortParts requests.Ping = Unit {0}
+HasShortParts (requests.Multi list) = All HasShortOpParts list
+HasShortParts (requests.SetWatches r) = AreShort r.content_paths × AreShort r.exist_paths × AreShort r.child_paths
+HasShortParts (requests.Auth body) = Unit {0}
+HasShortParts requests.Close = Unit {0}
+HasShortParts (requests.Unknown kind body) = Unit {0}
+
+-- no watch is asked for, and no multi
+unfoldable pub IsServed : Request → Type 0
+IsServed (requests.Exists r) = r.watch ≡ false
+IsServed (requests.GetContent r) = r.watch ≡ false
+IsServed (requests.GetChildren r) = r.watch ≡ false
+IsServed (requests.GetChildren2 r) = r.watch ≡ false
+IsServed (requests.Multi list) = ⊥
+IsServed (requests.SetWatches r) = ⊥
+IsServed r = Unit {0}
+
+-- a request other than create
+unfoldable pub IsOther : Request → Type 0
+IsOther (requests.Create r) = ⊥
+IsOther r = Unit {0}
+
+-- the last component of a new node: the name, or for a sequential node what the naming makes of the stem
+unfoldable pub name_at : Naming → Path → List ℕ → Bool → ℕ → Option (List ℕ)
+name_at naming p n false creations = Some n
+name_at naming p n true creations = naming p n creations
+
+-- and its whole path, if it has a name
+unfoldable pub IsNamedTo : Path → Option (List ℕ) → Option (List ℕ) → Type 0
+IsNamedTo p None name = name ≡ None
+IsNamedTo p (Some text) name = (m : List ℕ) × (name ≡ Some m) × IsTextOf text (m ∷ p)
