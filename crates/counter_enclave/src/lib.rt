@@ -5,8 +5,9 @@
 //! path again. It does no input or output, and no plain name leaves it.
 //!
 //! The definitions are in `specs/Enclave.antt`. The crate stands on `path_seal` for sealing and
-//! opening, and on `zk_path` for the trait [`Numberer`](zk_path::Numberer) and its digits. Read
-//! [`CounterEnclave`] first, then its `number`.
+//! opening, and on `zk_path` for the trait [`Numberer`](zk_path::Numberer) and its digits; its tests
+//! alone stand on `tree_state`, under whose tree they put it. Read [`CounterEnclave`] first, then its
+//! `number`.
 #![tactic(auto)]
 
 mod enclave;

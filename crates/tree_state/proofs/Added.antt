@@ -14,11 +14,11 @@ use Rattle.tree_state.specs.Changes.{fresh_numbers, with_creation}
 use Rattle.tree_state.specs.Commands.{IsTextOf}
 use Rattle.tree_state.specs.Counts.{with_child, IsCountedIn}
 use Rattle.tree_state.specs.Nodes.{Path, Node, Place, same_path, find, is_there, change, add, children, child_names, placed, size_of, greatest_int}
-use Rattle.tree_state.specs.Places.{path_of, Entry, node_of, place_of, HasText, HasNames, IsRooted, IsSteady, Holds, content_limit}
+use Rattle.tree_state.specs.Places.{path_of, Entry, node_of, place_of, HasText, HasNames, IsRooted, IsSteady, Holds, content_limit, text_limit}
 use Rattle.tree_state.proofs.SamePaths.{same_path-true, same_path-above, same_path-sym}
 use Rattle.tree_state.proofs.Reorder.{Shuffles}
 use Rattle.tree_state.proofs.PathTexts.{path_of-IsTextOf, legal_above}
-use Rattle.tree_state.proofs.Found.{found_there, there_changed, apart_changed, find_changed-same, find_changed-other, children_changed, find_added-same, find_added-other, apart_added, children_added-other, change_added}
+use Rattle.tree_state.proofs.Found.{found_there, there_changed, there_added-other, apart_changed, find_changed-same, find_changed-other, children_changed, find_added-same, find_added-other, apart_added, children_added-other, change_added}
 use Rattle.tree_state.proofs.Entries.{at_text, there_holds, insert_places, all_inserted, texts_inserted, texts_set}
 use Rattle.tree_state.proofs.NameSets.{has_name, insert_name}
 use Rattle.tree_state.proofs.ChildNames.{has_child_name, names_changed, names_added-same, names_added-other, count_added, no_children, no_names, rooted_changed, rooted_added}
@@ -106,15 +106,24 @@ low_value : (v : code.Node) (n : Node) → node_of v ≡ n → n.numbers.creatio
 unfolding node_of
 low_value v n e low = subst (λ (x : Node). x.numbers.creations < greatest_int) (sym e) low
 
+-- the texts of paths are short after it as they were, where its own is
+added_short : (es : List Place) (n : List ℕ) (p : Path) (node : Node) (changed : List Place) (text : List ℕ) → IsTextOf text (n ∷ p) → length text ≤ text_limit
+    → ((r : Path) → is_there changed r ≡ true → length (text_of r) ≤ text_limit)
+    → (q : Path) → is_there (add (n ∷ p) node changed) q ≡ true → length (text_of q) ≤ text_limit
+added_short es n p node changed text spelled room short q there = elim (cases_Bool (same_path (n ∷ p) q)) [
+  | inl k ↦ subst (λ (r : Path). length (text_of r) ≤ text_limit) (same_path-true (n ∷ p) q k) (subst (λ (l : List ℕ). length l ≤ text_limit) spelled.spelled room)
+  | inr k ↦ short q (sym (there_added-other (n ∷ p) q node changed k) ∙ there)
+]
+
 -- a node is put where none is, and counted in its parent
 pub holds_added : (t u w : Places) (es : List Place) (text upper : List ℕ) (n : List ℕ) (p : Path) (up : Node) (key name : String Global) (value : code.Node) (z : ℤ)
     (at : Moment) (ephemeral : Bool) (content : Option (List ℕ))
     → Holds t es → IsTextOf text (n ∷ p) → upper ≡ text_of p → string_bytes key ≡ text → string_bytes name ≡ n
     → node_of value ≡ record { content = content; numbers = fresh_numbers at ephemeral } → value.names.keys ≡ []
-    → is_there es (n ∷ p) ≡ false → find es p ≡ Some up → up.numbers.creations < greatest_int → size_of content ≤ content_limit
+    → is_there es (n ∷ p) ≡ false → find es p ≡ Some up → up.numbers.creations < greatest_int → size_of content ≤ content_limit → length text ≤ text_limit
     → u.nodes.entries ≡ insert_entry string_cmp t.nodes.entries key value → IsCountedIn upper name z u.nodes.entries w.nodes.entries
     → Holds w (add (n ∷ p) (record { content = content; numbers = fresh_numbers at ephemeral }) (change p (with_creation z) es))
-holds_added t u w es text upper n p up key name value z at ephemeral content h spelled above at_key at_name same bare absent found low short put counts =
+holds_added t u w es text upper n p up key name value z at ephemeral content h spelled above at_key at_name same bare absent found low short room put counts =
     let node : Node = record { content = content; numbers = fresh_numbers at ephemeral } in
     let f = with_creation z in
     let changed = change p f es in
@@ -144,6 +153,7 @@ holds_added t u w es text upper n p up key name value z at ephemeral content h s
       names = subst (All (HasNames (add (n ∷ p) node changed))) (sym set) names;
       rooted = rooted_added n p node changed there (rooted_changed p f es h.rooted);
       steady = added_steady es n p z up at ephemeral content h.rooted h.steady absent found low short;
+      short = λ q q_there. added_short es n p node changed text spelled room (λ r r_there. h.short r (sym (there_changed p r f es) ∙ r_there)) q q_there;
     }
 
 pub fresh_value : (content : Option (List ℕ)) (numbers : Numbers) (names : BTreeSet (String Global)) (at : Moment) (ephemeral : Bool) → numbers ≡ fresh_numbers at ephemeral

@@ -31,7 +31,7 @@ use Rattle.tree_state.specs.State.{State, Session, Watch, told, left, on_data, s
 use Rattle.tree_state.specs.Changes.{Trial, failed, done, Naming, Effect, perform, has_owner, is_at_last, is_other_version, name_for, fresh_numbers, with_creation, with_deletion, with_content, with_acl, created, deleted, updated, events_to, no_node, bad_version, not_empty, node_exists, no_children_for_ephemerals, system_error}
 use Rattle.tree_state.specs.Step.{Answer, answer, with_error, told_only}
 use Rattle.tree_state.specs.Sessions.{Keeps, Owning, with_owned, without_owned}
-use Rattle.tree_state.specs.Places.{node_of, kept_stat, IsSmall, IsFound, IsApart, Holds, content_limit}
+use Rattle.tree_state.specs.Places.{node_of, kept_stat, IsSmall, IsFound, IsApart, Holds, content_limit, text_limit}
 use Rattle.tree_state.specs.Trees.{AreOwned, IsGiven, Means, Answers, IsParent, MayCreate, IsMoment, Performs, IsShortContent}
 use Rattle.tree_state.proofs.Found.{there_found, there_changed, find_changed-same, children_changed}
 use Rattle.tree_state.proofs.ChildNames.{no_children}
@@ -529,17 +529,17 @@ created_so naming at s p n m d q e up after made parent named vacant spelled non
     performed s _ (created at p m node s) after (results.Created made) (create_done naming at s p n m d q e up parent named vacant) (ap results.Created spelled) (no_create_watch at p m node s none).0 means
 
 pub create_makes : (naming : Naming) (at : Moment) (s : State) (p : Path) (n m : List ℕ) (d c : Option (List ℕ)) (q e : Bool) (up : Node) (h mid after : Held) (text made : List ℕ) (o : Option (Bor code.Node))
-    → Means h s → IsTextOf text (m ∷ p) → IsMoment s at → IsParent s p up → name_for naming p n q up ≡ Some m → IsFound s.nodes (m ∷ p) (option_copied o) → false ≡ is_some o → IsShortContent d → c ≡ d → made ≡ text
+    → Means h s → IsTextOf text (m ∷ p) → IsMoment s at → IsParent s p up → name_for naming p n q up ≡ Some m → IsFound s.nodes (m ∷ p) (option_copied o) → false ≡ is_some o → IsShortContent d → length text ≤ text_limit → c ≡ d → made ≡ text
     → Joins h mid at.session text e → after.sessions ≡ mid.sessions → after.last ≡ at.zxid
-    → ((es : List Place) (k : List ℕ) (r : Path) (x : Node) → Holds mid.places es → IsTextOf text (k ∷ r) → is_there es (k ∷ r) ≡ false → find es r ≡ Some x → x.numbers.creations < greatest_int → size_of c ≤ content_limit
+    → ((es : List Place) (k : List ℕ) (r : Path) (x : Node) → Holds mid.places es → IsTextOf text (k ∷ r) → is_there es (k ∷ r) ≡ false → find es r ≡ Some x → x.numbers.creations < greatest_int → size_of c ≤ content_limit → length text ≤ text_limit
     → Holds after.places (add (k ∷ r) (record { content = c; numbers = fresh_numbers at e }) (change r (with_creation at.zxid) es)))
     → Performs s (perform naming at s (create p n d q e)) after (Ok (results.Created made))
-create_makes naming at s p n m d c q e up h mid after text made o means t mo parent named f there short copy spelled joins same last holds =
+create_makes naming at s p n m d c q e up h mid after text made o means t mo parent named f there short room copy spelled joins same last holds =
     let vacant = found_so s.nodes (m ∷ p) o false f (sym there) in
     let node : Node = record { content = d; numbers = fresh_numbers at e } in
     let put : Holds after.places (add (m ∷ p) node (change p (with_creation at.zxid) s.nodes)) =
     subst (λ (x : Option (List ℕ)). Holds after.places (add (m ∷ p) (record { content = x; numbers = fresh_numbers at e }) (change p (with_creation at.zxid) s.nodes))) copy
     (holds s.nodes m p up (subst (λ (u : Places). Holds u s.nodes) (sym joins.places) means.places) t vacant parent.there (low_so up.numbers.creations parent.room)
-    (subst (λ (x : Option (List ℕ)). size_of x ≤ content_limit) (sym copy) (short_content d short))) in
+    (subst (λ (x : Option (List ℕ)). size_of x ≤ content_limit) (sym copy) (short_content d short)) room) in
     created_so naming at s p n m d q e up after made parent named vacant (spelled ∙ t.spelled) means.watches
     (made_means h mid after at s text p m up d e means mo t parent vacant joins same put last)

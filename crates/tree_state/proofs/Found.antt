@@ -1,7 +1,7 @@
 -- What is found after a change, in a list of nodes: at the path, and elsewhere.
 use Rattle.std.proofs.Common.{◌≡◌, ℕ, Bool, true, false, cond, not, is_some, List, [], ◌∷◌, ◌++◌, Option, Some, None, map, filter, inl, inr, refl, sym, ap, subst, ◌∙◌}
 use Rattle.std.specs.List.{filter_map, cons_option}
-use Rattle.std.proofs.lemmas.Bool.{cases_Bool}
+use Rattle.std.proofs.lemmas.Bool.{cases_Bool, both_ways}
 use Rattle.tree_state.specs.Nodes.{Path, Node, Place, same_path, name_under, find, is_there, changed_at, change, add, is_elsewhere, remove, name_of_child, children}
 use Rattle.tree_state.specs.Places.{IsApart}
 use Rattle.tree_state.proofs.SamePaths.{same_path-true, same_path-refl}
@@ -268,4 +268,11 @@ children_removed-same m p [] a h = absurd (no_node m p h)
 children_removed-same m p (e ∷ es) a h = elim (cases_Bool (same_path e.path (m ∷ p))) [
   | inl i ↦ first_goes m p e es a.0 i
   | inr i ↦ later_goes m p e es i (children_removed-same m p es a.1 (sym (there_behind es e (m ∷ p) i) ∙ h))
+]
+
+-- what is there after one went was there
+pub was_there : (p q : Path) (es : List Place) → is_there (remove p es) q ≡ true → is_there es q ≡ true
+was_there p q es h = elim (cases_Bool (same_path p q)) [
+  | inl k ↦ absurd (both_ways _ (subst (λ (r : Path). is_there (remove p es) r ≡ false) (same_path-true p q k) (there_removed-same p es)) h)
+  | inr k ↦ sym (there_removed-other p q es k) ∙ h
 ]

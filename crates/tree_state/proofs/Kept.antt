@@ -12,7 +12,7 @@ use Rattle.tree_state.specs.Changes.{with_content, with_acl}
 use Rattle.tree_state.specs.Shuffles.{Shuffles}
 use Rattle.tree_state.specs.Places.{path_of, Entry, path_at, node_of, place_of, HasText, HasNames, IsSteady, Holds, content_limit}
 use Rattle.tree_state.proofs.SamePaths.{same_path-true}
-use Rattle.tree_state.proofs.Found.{apart_changed, find_changed-same, find_changed-other, children_changed}
+use Rattle.tree_state.proofs.Found.{there_changed, apart_changed, find_changed-same, find_changed-other, children_changed}
 use Rattle.tree_state.proofs.ChildNames.{names_changed, rooted_changed}
 use Rattle.tree_state.proofs.Entries.{at_text, apart_entries, find_holds, set_places, all_set, texts_set}
 
@@ -57,6 +57,7 @@ change_holds t u es text p f v w h k l e same steady eu =
           (λ key here n. same_names es p f key v w same n) h.names);
       rooted = rooted_changed p f es h.rooted;
       steady = all_steady p f (node_of v) es (find_holds t es text p h k ∙ ap (option_map node_of) l) steady h.steady;
+      short = λ q there. h.short q (sym (there_changed p q f es) ∙ there);
     }
 
 -- the node that is found is that of the map

@@ -14,7 +14,7 @@ use Rattle.tree_state.specs.Places.{Entry, node_of, place_of, HasText, HasNames,
 use Rattle.tree_state.proofs.SamePaths.{same_path-true, same_path-above, same_path-sym}
 use Rattle.tree_state.proofs.Reorder.{Shuffles}
 use Rattle.tree_state.proofs.PathTexts.{legal_above}
-use Rattle.tree_state.proofs.Found.{found_there, there_node, there_changed, apart_changed, find_changed-same, find_changed-other, children_changed, there_removed-same, find_removed-other, apart_removed, children_removed-other}
+use Rattle.tree_state.proofs.Found.{found_there, was_there, there_node, there_changed, apart_changed, find_changed-same, find_changed-other, children_changed, there_removed-same, find_removed-other, apart_removed, children_removed-other}
 use Rattle.tree_state.proofs.Entries.{at_text, remove_places, all_removed, texts_removed, texts_set}
 use Rattle.tree_state.proofs.NameSets.{has_name, remove_name}
 use Rattle.tree_state.proofs.ChildNames.{has_child_name, names_changed, names_removed-same, names_removed-other, count_removed, rooted_changed, rooted_removed}
@@ -152,4 +152,5 @@ holds_removed t u w es text upper name n p z h spelled above at_name there alone
       names = subst (All (HasNames after)) (sym set) names;
       rooted = rooted_removed (n ∷ p) changed none (rooted_changed p f es h.rooted);
       steady = removed_steady es n p z up.0 h.apart h.steady there up.1;
+      short = λ q still_there. h.short q (sym (there_changed p q f es) ∙ was_there (n ∷ p) q changed still_there);
     }

@@ -1,5 +1,5 @@
 -- The map of the root alone.
-use Rattle.std.proofs.Common.{◌≡◌, ◌≤◌, ℕ, zero-le, List, [], ◌∷◌, Some, None, String, Global, string_bytes, string_cmp, codes, map, refl, sym, ap, subst, ◌∙◌, arith}
+use Rattle.std.proofs.Common.{◌≡◌, ◌≤◌, ℕ, zero-le, length, true, List, [], ◌∷◌, Some, None, String, Global, string_bytes, string_cmp, codes, map, refl, sym, ap, subst, ◌∙◌, arith}
 use Rattle.std.specs.Prelude.{All}
 use Rattle.std.specs.BTreeMap.{insert_entry}
 use Rattle.std.proofs.lemmas.List.Elements.{All-nil, All-cons}
@@ -10,7 +10,7 @@ use Rattle.tree_state.specs.Commands.{IsTextOf}
 use Rattle.tree_state.specs.Nodes.{Path, Node, Place, same_path, find, is_there, name_under, name_of_child, children, child_names, in_order, size_of, greatest_int}
 use Rattle.tree_state.specs.State.{start_at, first_numbers}
 use Rattle.tree_state.specs.Shuffles.{Shuffles}
-use Rattle.tree_state.specs.Places.{path_of, Entry, node_of, place_of, HasText, HasNames, IsApart, IsRooted, IsSteady, Holds, IsRoot}
+use Rattle.tree_state.specs.Places.{path_of, Entry, node_of, place_of, HasText, HasNames, IsApart, IsRooted, IsSteady, Holds, IsRoot, text_limit}
 use Rattle.tree_state.proofs.Reorder.{same_order}
 use Rattle.tree_state.proofs.PathTexts.{path_of-IsTextOf, IsTextOf-path_of}
 
@@ -51,6 +51,11 @@ root_steady creations low [] n h =
 root_steady creations low (m ∷ p) n h = absurd cc
 
 -- the root is put into an empty map
+root_short : (creations : ℕ) (q : Path) → is_there (root_place creations ∷ []) q ≡ true → length (text_of q) ≤ text_limit
+unfolding root_place is_there same_path text_of
+root_short creations [] h = omega arith
+root_short creations (n ∷ q) h = absurd cc
+
 pub root_holds : (t : Places) (old : List Entry) (k : String Global) (v : code.Node) (creations : ℕ) → string_bytes k ≡ codes "/" → IsRoot v creations → creations ≤ greatest_int
     → old ≡ [] → t.nodes.entries ≡ insert_entry string_cmp old k v → Holds t (start_at creations).nodes
 unfolding start_at root_place root_node
@@ -67,4 +72,5 @@ root_holds t old k v creations text root low empty put =
           (All-cons (HasNames (root_place creations ∷ [])) (k, v) [] named (All-nil (HasNames (root_place creations ∷ []))));
       rooted = root_rooted creations;
       steady = root_steady creations low;
+      short = root_short creations;
     }

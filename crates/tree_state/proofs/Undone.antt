@@ -24,6 +24,7 @@ same_holds t u es e h = record {
   names = subst (All (HasNames es)) (sym e) h.names;
   rooted = h.rooted;
   steady = h.steady;
+  short = h.short;
 }
 
 -- a node is there where its key is

@@ -3,6 +3,7 @@ use Rattle.std.specs.Prelude.{◌≡◌, ℕ, pos, ◌+◌, ◌≤◌, List, [],
 use Rattle.std.specs.Global.{Global}
 use Rattle.std.specs.Str.{bytes_eq}
 use Rattle.std.specs.String.{string_bytes}
+use Rattle.zk_path.specs.Paths.{text_of}
 use Rattle.zk_path.specs.View.{components}
 use Rattle.zk_records.specs.declared.stat.Stat.{Stat}
 use Rattle.tree_state.specs.declared.node.Node as code
@@ -46,6 +47,10 @@ IsApart (e ∷ es) = (is_there es e.path ≡ false) × IsApart es
 abbrev pub IsRooted : List Place → Type 0
 IsRooted es = (n : List ℕ) (p : Path) → is_there es (n ∷ p) ≡ true → is_there es p ≡ true
 
+-- the most bytes of a path's text: that of a request's, and of a number
+abbrev pub text_limit : ℕ
+text_limit = 134217748
+
 -- the most bytes of a content
 abbrev pub content_limit : ℕ
 content_limit = 134217728
@@ -66,6 +71,7 @@ pub record Holds (t : Places) (es : List Place) : Type 0 where
   pub names : All (HasNames es) t.nodes.entries
   pub rooted : IsRooted es
   pub steady : (p : Path) (n : Node) → find es p ≡ Some n → IsSteady es p n
+  pub short : (p : Path) → is_there es p ≡ true → length (text_of p) ≤ text_limit
 
 -- what the code has of the root: no content and no children
 pub record IsRoot (n : code.Node) (creations : ℕ) : Type 0 where

@@ -1,6 +1,6 @@
 //! What a tree holds, and the rows of the machine over it.
 
-ghost use Rattle.std.specs.Prelude.{◌≡◌, ◌≤◌, ◌<◌, ℕ, ℤ, List, [], ◌∷◌, Bool, false, Ok, Err, Some, None, IfOk};
+ghost use Rattle.std.specs.Prelude.{◌≡◌, ◌≤◌, ◌<◌, ℕ, ℤ, List, [], ◌∷◌, length, Bool, false, Ok, Err, Some, None, IfOk};
 ghost use Rattle.tree_state.specs.declared.node.Moment.{Moment as At};
 ghost use Rattle.tree_state.specs.Commands.{Command, Asks, IsTextOf, stat_at, get_content, get_acl, get_children, set_acl, sync, create, delete, set_content};
 ghost use Rattle.tree_state.specs.Nodes.{Path, Node, find, has_children, ephemerals, stat_of, greatest_int};
@@ -8,6 +8,7 @@ ghost use Rattle.tree_state.specs.State.{State, Session as PlainSession, session
 ghost use Rattle.tree_state.specs.Changes.{Naming, Trial, Effect, perform, name_for, is_other_version, deleted, all_deleted};
 ghost use Rattle.tree_state.specs.Step.{answer, answer_single, outcome_of, ended};
 ghost use Rattle.tree_state.specs.declared.held.Held.{Held as PlainHeld};
+ghost use Rattle.tree_state.specs.Places.{text_limit};
 ghost use Rattle.tree_state.specs.Trees.{Means, Answers, Tells, Performs, MayCreate, IsParent, IsMoment, HasShortParts, IsShortContent, IsServed, IsOther};
 ghost use Rattle.zk_messages.specs.Refuses.{Refuses, open_acl};
 
@@ -200,6 +201,7 @@ impl Held {
         at: &Moment,
     ) -> Result<OpResult, NotDone>
         requires short { IsShortContent content.now }
+        requires room { length path.now ≤ text_limit }
         ensures { (naming : Naming) (s : State) (p : Path) (n m : List ℕ) (sequential : Bool) (up : Node) → Means self.old s → IsTextOf path.now (m ∷ p)
             → IsMoment s at.now → IsParent s p up → name_for naming p n sequential up ≡ Some m
             → Performs s (perform naming at.now s (create p n content.now sequential ephemeral)) self.new result }

@@ -19,6 +19,8 @@ mod message;
 mod node;
 mod places;
 mod session;
+#[cfg(test)]
+mod tests;
 mod texts;
 mod tree;
 

@@ -1,12 +1,12 @@
 //! The nodes, in one map that is ordered by the texts of their paths.
 
-ghost use Rattle.std.specs.Prelude.{◌≡◌, ℕ, List, ◌∷◌, ◌<◌, ◌≤◌, true, false, Some, IfOk, OnOk, OnErr};
+ghost use Rattle.std.specs.Prelude.{◌≡◌, ℕ, List, ◌∷◌, ◌<◌, ◌≤◌, length, true, false, Some, IfOk, OnOk, OnErr};
 ghost use Rattle.std.specs.Option.{option_copied};
 ghost use Rattle.tree_state.specs.Commands.{IsTextOf};
 ghost use Rattle.tree_state.specs.Nodes.{Path, Node as PlainNode, Place, find, is_there, add, remove, change, has_children, size_of, greatest_int};
 ghost use Rattle.tree_state.specs.State.{start_at};
 ghost use Rattle.tree_state.specs.Changes.{fresh_numbers, with_creation, with_deletion, with_content, with_acl};
-ghost use Rattle.tree_state.specs.Places.{Holds, IsFound, content_limit};
+ghost use Rattle.tree_state.specs.Places.{Holds, IsFound, content_limit, text_limit};
 ghost use Rattle.tree_state.specs.Counts.{IsCountedIn, IsCountedOut};
 
 use crate::node::{Moment, Node, Numbers, fresh, root};
@@ -49,7 +49,7 @@ impl Places {
         ephemeral: bool,
     ) -> Result<(), Memory>
         ensures ok { OnOk result ((es : List Place) (n : List ℕ) (p : Path) (up : PlainNode) → Holds self.old es → IsTextOf path.now (n ∷ p)
-            → is_there es (n ∷ p) ≡ false → find es p ≡ Some up → up.numbers.creations < greatest_int → size_of content ≤ content_limit
+            → is_there es (n ∷ p) ≡ false → find es p ≡ Some up → up.numbers.creations < greatest_int → size_of content ≤ content_limit → length path.now ≤ text_limit
             → Holds self.new (add (n ∷ p) (record { content = content; numbers = fresh_numbers at.now ephemeral }) (change p (with_creation at.now.zxid) es))) }
         ensures err { OnErr result ((es : List Place) → Holds self.old es → Holds self.new es) }
     {

@@ -1,6 +1,6 @@
 //! The tree: the machine over what is held, with a numberer.
 
-ghost use Rattle.std.specs.Prelude.{◌≡◌, ◌<◌, ◌<ℤ◌, ◌≤ℤ◌, ◌↔◌, ◌-◌, ◌^◌, ℕ, List, [], pos, Bool, Option, Some, IfOk, IsTrue, OnErr, unsigned_abs};
+ghost use Rattle.std.specs.Prelude.{◌≡◌, ◌<◌, ◌≤◌, ◌<ℤ◌, ◌≤ℤ◌, ◌↔◌, ◌-◌, ◌^◌, ℕ, List, [], length, pos, Bool, Option, Some, IfOk, IfSome, IsTrue, OnErr, unsigned_abs};
 ghost use Rattle.std.specs.Option.{option_map};
 ghost use Rattle.zk_messages.specs.Refuses.{IsSequential};
 ghost use Rattle.tree_state.specs.Commands.{Command, IsCommand, IsCreate, IsEphemeral, IsTextOf, single, create};
@@ -8,6 +8,7 @@ ghost use Rattle.tree_state.specs.Nodes.{Path, find, child_names, stat_of, great
 ghost use Rattle.tree_state.specs.State.{State, Session as PlainSession, start_at, session_of, session_at};
 ghost use Rattle.tree_state.specs.Changes.{Naming};
 ghost use Rattle.tree_state.specs.Step.{connects, asks, loses, expires, given_to, answer};
+ghost use Rattle.tree_state.specs.Places.{text_limit};
 ghost use Rattle.tree_state.specs.Trees.{Means, Stays, Does, Answers, CanConnect, IsMoment, IsNaming, IsNamedTo, name_at, HasShortParts, IsShort, IsShortContent, IsServed};
 
 use crate::held::{Held, alone};
@@ -182,6 +183,7 @@ impl<N: Numberer + Drop> Tree<N> {
         ensures named { IfOk result (λ path. (naming : Naming) (p : Path) (n : List ℕ) (content : Option (List ℕ)) (sequential ephemeral : Bool)
             → IsNaming (N.named self.old.numberer) naming → IsCreate asked.now p n content sequential ephemeral
             → IsNamedTo p path (name_at naming p n sequential creations)) }
+        ensures short { IfOk result (λ path. IfSome path (λ text. length text ≤ text_limit)) }
         ensures held { self.new.held ≡ self.old.held }
         ensures names { (stem : List ℕ) (number : ℕ) (text : List ℕ) → N.named self.new.numberer stem number text ↔ N.named self.old.numberer stem number text }
     {

@@ -50,4 +50,4 @@ returns c = λ naming s p n m q up means t mo parent named.
       | else-ephemeral w ↦ no_join c.args.self.now _ _ _ _ w.if-ephemeral.false w.self-is
     ] in
     create_makes naming c.args.at.now s p n m _ _ q c.args.ephemeral up c.args.self.now c.if-ephemeral.self _ c.args.path.now _ c.find.result means t mo parent named (c.find.ensures s.nodes (m ∷ p) means.places t) c.if-is_some.ensures
-    c.requires.short c.in_ok-content.ensures c.in_ok-made.ensures joins refl (to_z-of_z w64 c.args.at.now.zxid f) (ok_holds c.add-added.result c.if-is_err.ensures.value c.add-added.ensures.ok)
+    c.requires.short c.requires.room c.in_ok-content.ensures c.in_ok-made.ensures joins refl (to_z-of_z w64 c.args.at.now.zxid f) (ok_holds c.add-added.result c.if-is_err.ensures.value c.add-added.ensures.ok)

@@ -1,4 +1,4 @@
-use Rattle.std.proofs.Common.{◌≡◌, ℕ, List, Err, sym, ap, subst, ◌∙◌, arith, w32}
+use Rattle.std.proofs.Common.{◌≡◌, ℕ, List, Err, length, sym, ap, subst, ◌∙◌, arith, w32}
 use Rattle.std.specs.Prelude.{unsigned_abs}
 use Rattle.std.proofs.lemmas.Bool.{both_ways}
 use Rattle.std.proofs.lemmas.Int.{to_z_pos}
@@ -23,3 +23,9 @@ pub returns-in-Err-CannotOpen-clause-named : goal.returns-in-Err-CannotOpen-clau
 returns-in-Err-CannotOpen-clause-named g c = λ naming p n d q e k h.
     not_named (g.N.Numberer.named c.args.self.now.numberer) naming c.args.asked.now p n d q e c.args.creations k h (c.is_sequential.ensures.0 c.if-not-is_sequential.false)
     (λ text x. c.in-Err-CannotOpen.ensures.cannot_open (ap Err c.in-Err-CannotOpen.field-0-is) text (own_name (g.N.Numberer.named c.args.self.now.numberer) c.as_str-path.result.now c.args.asked.now.path _ _ text (sym c.as_str-path.ensures) (sym (ap unsigned_abs (to_z_pos w32 c.args.creations (omega (arith, c.requires.room))))) x))
+
+pub returns-in-Ok-clause-short : goal.returns-in-Ok-clause-short
+returns-in-Ok-clause-short g c =
+    let near = (g.met.N.Numberer.keeps c.args.self.now.numberer c.as_str-path.result.now _ c.in-Ok.text c.in-Ok.ensures.named).short in
+    let lent = ap length c.as_str-path.ensures in
+    omega (arith, near, lent, c.requires.path)
