@@ -309,6 +309,8 @@ fn a_node_is_made_with_its_stat(rt: HostRuntime) -> Result<(), Fail> {
         pzxid: 2,
     };
     assert_eq!(rt; tree.stat("/app"), Some(expected));
+    let told = applied(alloc, &mut tree, 1_000, Ask::Get("/app"))?;
+    assert!(rt; has_content(&told, Some(b"hello"), 0));
     Ok(())
 }
 
@@ -354,8 +356,11 @@ fn sequential_nodes_are_numbered_and_changed(rt: HostRuntime) -> Result<(), Fail
         ("/q/n-", 2, "/q/n-0000000001"),
         ("/q/", 2, "/q/0000000002"),
     ] {
-        let made = applied(alloc, &mut tree, 0, Ask::Create(stem, None, flags))?;
+        let content = name.as_bytes();
+        let made = applied(alloc, &mut tree, 0, Ask::Create(stem, Some(content), flags))?;
         assert!(rt; path_in(&made) == name);
+        let told = applied(alloc, &mut tree, 0, Ask::Get(name))?;
+        assert!(rt; has_content(&told, Some(content), 0));
     }
     let set = Ask::Set("/q/n-0000000000", b"new", -1);
     let changed = applied(alloc, &mut tree, 0, set)?;
