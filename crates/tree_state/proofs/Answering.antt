@@ -1,10 +1,13 @@
 -- A refused request is answered with its code, and each other one by its row.
-use Rattle.std.proofs.Common.{◌≡◌, ℕ, ℤ, Bool, List, Option, Some, None, Result, Ok, refl, sym, ap, subst, inl, inr}
+use Rattle.std.proofs.Common.{◌≡◌, ℕ, ℤ, Bool, List, [], ◌∷◌, All, Option, Some, None, Result, Ok, refl, sym, ap, subst, inl, inr}
+use Rattle.std.specs.List.{AllZip}
+use Rattle.std.proofs.lemmas.List.Elements.{All-nil, All-cons}
 use Rattle.jute_core.specs.declared.held.Memory.{Memory}
 use Rattle.zk_records.specs.declared.create.CreateRequest.{CreateRequest}
-use Rattle.zk_messages.specs.Refuses.{Refuses}
+use Rattle.zk_messages.specs.Refuses.{Refuses, RefusesOp, RefusesOps}
 use Rattle.zk_messages.specs.declared.reply.Outcome.{Outcome}
 use Rattle.zk_messages.specs.declared.reply.Outcome.TheVariants as outcomes
+use Rattle.zk_messages.specs.declared.request.Op.{Op}
 use Rattle.zk_messages.specs.declared.request.Request.{Request}
 use Rattle.zk_messages.specs.declared.request.Request.TheVariants as requests
 use Rattle.zk_messages.proofs.FirstRules.{one_outcome}
@@ -12,10 +15,11 @@ use Rattle.tree_state.specs.declared.held.Held.{Held}
 use Rattle.tree_state.specs.declared.node.Moment.{Moment}
 use Rattle.tree_state.specs.Nodes.{Path}
 use Rattle.tree_state.specs.State.{State}
-use Rattle.tree_state.specs.Commands.{Command, Asks, IsCommand, IsCreate, single, create}
-use Rattle.tree_state.specs.Changes.{Naming}
-use Rattle.tree_state.specs.Step.{answer, with_error}
-use Rattle.tree_state.specs.Trees.{Means, Answers, IsOther}
+use Rattle.tree_state.specs.Commands.{Command, Asks, Change, IsChange, IsCommand, IsCreate, single, create, multi}
+use Rattle.tree_state.specs.Changes.{Naming, perform}
+use Rattle.tree_state.specs.Step.{answer, answer_single, with_error}
+use Rattle.tree_state.specs.Trees.{Means, Answers, HasRoom, IsOther}
+use Rattle.tree_state.proofs.Alone.{Sent, untold}
 
 some_same : (a b : ℤ) → Some a ≡ Some b → a ≡ b
 some_same a b h = cc
@@ -23,13 +27,13 @@ some_same a b h = cc
 some_none : (a : ℤ) → Some a ≡ None → ⊥
 some_none a h = cc
 
-pub refused_answers : (naming : Naming) (at : Moment) (c : ℕ) (s : State) (h : Held) (r : Request) (command : Command) (code : ℤ) → Means h s → Refuses r (Some code) → IsCommand r command
-    → Answers s (answer naming at c s command) h (Ok (outcomes.Error code))
+pub refused_answers : (naming : Naming) (at : Moment) (c : ℕ) (s : State) (h : Held) (before : Sent) (r : Request) (command : Command) (code : ℤ) → Means h s → HasRoom before → Refuses r (Some code) → IsCommand r command
+    → Answers s (answer naming at c s command) h before before (Ok (outcomes.Error code))
 unfolding IsCommand answer Answers with_error
-refused_answers naming at c s h r command code m f (inl k) =
+refused_answers naming at c s h before r command code m room f (inl k) =
     let same = some_same code k.0 (one_outcome r _ _ f k.1) in
-    subst (λ (x : Command). Answers s (answer naming at c s x) h (Ok (outcomes.Error code))) (sym k.2) (ap outcomes.Error same, refl, m)
-refused_answers naming at c s h r command code m f (inr k) = absurd (some_none code (one_outcome r _ _ f k.0))
+    subst (λ (x : Command). Answers s (answer naming at c s x) h before before (Ok (outcomes.Error code))) (sym k.2) (ap outcomes.Error same, untold before before [] room refl refl, m)
+refused_answers naming at c s h before r command code m room f (inr k) = absurd (some_none code (one_outcome r _ _ f k.0))
 
 pub asked_plain : (r : Request) (command : Command) → Refuses r None → IsCommand r command → Asks r command
 unfolding IsCommand
@@ -50,14 +54,50 @@ unfolding Asks
 asks_create r (single (create p n d q e)) h = record { path = p; name = n; content = d; sequential = q; ephemeral = e; asked = h; is = refl }
 asks_create r command h = absurd h
 
-pub create_answers : (naming : Naming) (at : Moment) (c : ℕ) (s : State) (h : Held) (r : Request) (x : CreateRequest) (command : Command) (result : Result Outcome Memory) → r ≡ requests.Create x → Refuses r None → IsCommand r command
-    → ((p : Path) (n : List ℕ) (d : Option (List ℕ)) (q e : Bool) → IsCreate x p n d q e → Answers s (answer naming at c s (single (create p n d q e))) h result)
-    → Answers s (answer naming at c s command) h result
-create_answers naming at c s h r x command result e f k done =
+pub create_answers : (naming : Naming) (at : Moment) (c : ℕ) (s : State) (h : Held) (before sent : Sent) (r : Request) (x : CreateRequest) (command : Command) (result : Result Outcome Memory) → r ≡ requests.Create x → Refuses r None → IsCommand r command
+    → ((p : Path) (n : List ℕ) (d : Option (List ℕ)) (q e : Bool) → IsCreate x p n d q e → Answers s (answer_single s (perform naming at s (create p n d q e))) h before sent result)
+    → Answers s (answer naming at c s command) h before sent result
+unfolding answer
+create_answers naming at c s h before sent r x command result e f k done =
     let a = asks_create x command (subst (λ (q : Request). Asks q command) e (asked_plain r command f k)) in
-    subst (λ (y : Command). Answers s (answer naming at c s y) h result) (sym a.is) (done a.path a.name a.content a.sequential a.ephemeral a.asked)
+    subst (λ (y : Command). Answers s (answer naming at c s y) h before sent result) (sym a.is) (done a.path a.name a.content a.sequential a.ephemeral a.asked)
 
-pub other : (r : Request) → ((x : CreateRequest) → r ≡ requests.Create x → ⊥) → IsOther r
+-- ---- multi
+
+pub record IsMulti (list : List Op) (command : Command) : Type 0 where
+  pub changes : List Change
+  pub asked : AllZip IsChange list changes
+  pub is : command ≡ multi changes
+
+asks_multi : (list : List Op) (command : Command) → Asks (requests.Multi list) command → IsMulti list command
+unfolding Asks
+asks_multi list (multi changes) h = record { changes = changes; asked = h; is = refl }
+asks_multi list command h = absurd h
+
+none_some : (a : ℤ) → None ≡ Some a → ⊥
+none_some a h = cc
+
+-- a multi that is not refused has no operation that is
+none_refused : (list : List Op) → RefusesOps list None → All (λ op. RefusesOp op None) list
+unfolding RefusesOps
+none_refused [] h = All-nil (λ op. RefusesOp op None)
+none_refused (op ∷ list) (inl h) = absurd (none_some h.0 h.2)
+none_refused (op ∷ list) (inr h) = All-cons (λ op. RefusesOp op None) op list h.0 (none_refused list h.1)
+
+each_allowed : (list : List Op) → Refuses (requests.Multi list) None → All (λ op. RefusesOp op None) list
+unfolding Refuses
+each_allowed list h = none_refused list h
+
+pub multi_answers : (naming : Naming) (at : Moment) (c : ℕ) (s : State) (h : Held) (before sent : Sent) (r : Request) (list : List Op) (command : Command) (result : Result Outcome Memory) → r ≡ requests.Multi list → Refuses r None → IsCommand r command
+    → ((changes : List Change) → All (λ op. RefusesOp op None) list → AllZip IsChange list changes → Answers s (answer naming at c s (multi changes)) h before sent result)
+    → Answers s (answer naming at c s command) h before sent result
+multi_answers naming at c s h before sent r list command result e f k done =
+    let a = asks_multi list command (subst (λ (q : Request). Asks q command) e (asked_plain r command f k)) in
+    subst (λ (y : Command). Answers s (answer naming at c s y) h before sent result) (sym a.is)
+    (done a.changes (each_allowed list (subst (λ (q : Request). Refuses q None) e f)) a.asked)
+
+pub other : (r : Request) → ((x : CreateRequest) → r ≡ requests.Create x → ⊥) → ((x : List Op) → r ≡ requests.Multi x → ⊥) → IsOther r
 unfolding IsOther
-other (requests.Create x) h = h x refl
-other r h = tt
+other (requests.Create x) h k = h x refl
+other (requests.Multi x) h k = k x refl
+other r h k = tt

@@ -1,8 +1,10 @@
 -- A request of a connection: its session is heard, it is answered, and the reply carries the last zxid.
-use Rattle.std.proofs.Common.{◌≡◌, ℕ, ℤ, Bool, true, false, cond, List, [], ◌∷◌, ◌++◌, Some, None, Result, Ok, Err, refl, sym, ap, subst, ◌∙◌}
-use Rattle.std.specs.Prelude.{All, pos, ◌+ℤ◌}
+use Rattle.std.proofs.Common.{◌≡◌, ℕ, ℤ, Bool, true, false, cond, List, [], ◌∷◌, ◌++◌, Some, None, Result, Ok, Err, refl, sym, ap, subst, ◌∙◌, inl, inr, arith, FitsSigned, w64, to_z, of_z}
+use Rattle.std.specs.Prelude.{All, pos, ◌+ℤ◌, ◌≤ℤ◌, ◌<ℤ◌, ◌-◌, ◌^◌, ◌≤◌, vec_capacity, vec_len}
 use Rattle.std.specs.Option.{option_map}
 use Rattle.jute_core.specs.declared.held.Memory.{Memory}
+use Rattle.std.proofs.lemmas.Bool.{cases_Bool}
+use Rattle.std.proofs.lemmas.Int.{ints}
 use Rattle.std.proofs.lemmas.List.Elements.{All-nil, All-cons, All-head, All-tail}
 use Rattle.zk_messages.specs.declared.reply.Outcome.{Outcome}
 use Rattle.tree_state.specs.declared.held.Held.{Held}
@@ -15,10 +17,10 @@ use Rattle.tree_state.specs.State.{State, Session, session_of, session_at, is_nu
 use Rattle.tree_state.specs.Commands.{Command}
 use Rattle.tree_state.specs.Changes.{Naming}
 use Rattle.tree_state.specs.Step.{Answer, Next, answer, asks, step, taken, replied, hears}
-use Rattle.tree_state.specs.Sessions.{Keeps}
-use Rattle.tree_state.specs.Trees.{Means, Does, Answers, IsGiven, IsMoment}
-use Rattle.tree_state.proofs.Ended.{is_moment}
-use Rattle.tree_state.proofs.SessionLists.{at_changed, live_on}
+use Rattle.tree_state.specs.Sessions.{Keeps, IsLiveOn}
+use Rattle.tree_state.specs.Trees.{Means, Does, Answers, HasRoom, IsGiven, IsMoment}
+use Rattle.tree_state.proofs.Alone.{Sent}
+use Rattle.tree_state.proofs.SessionLists.{at_changed, at_first, at_others, none_live, number_of}
 
 -- ---- the session is heard
 
@@ -79,19 +81,21 @@ the_moment at z t k e f g =
 abbrev pub reply_to : ℕ → ℤ → ℤ → Outcome → Output
 reply_to c xid zxid outcome = record { connection = c; message = messages.Reply (record { xid = xid; zxid = zxid; outcome = outcome }) }
 
-pub applied : (naming : Naming) (s : State) (c : ℕ) (xid now k : ℤ) (command : Command) (h : Held) (outcome : Outcome) (at : Moment) (outputs : List Output)
-    → session_of c s.sessions ≡ Some k → at ≡ record { zxid = next_zxid s; time = now; session = k } → Answers (hears k now s) (answer naming at c (hears k now s) command) h (Ok outcome)
-    → outputs ≡ reply_to c xid h.last outcome ∷ [] → Does naming s (asks c xid command now) h outputs
+-- the events, and behind them the reply
+pub applied : (naming : Naming) (s : State) (c : ℕ) (xid now k : ℤ) (command : Command) (h : Held) (outcome : Outcome) (at : Moment) (before sent : Sent) (outputs : List Output)
+    → session_of c s.sessions ≡ Some k → at ≡ record { zxid = next_zxid s; time = now; session = k } → before.items ≡ [] → Answers (hears k now s) (answer naming at c (hears k now s) command) h before sent (Ok outcome)
+    → outputs ≡ sent.items ++ reply_to c xid h.last outcome ∷ [] → Does naming s (asks c xid command now) h outputs
 unfolding step taken replied Answers
-applied naming s c xid now k command h outcome at outputs on moment a out =
+applied naming s c xid now k command h outcome at before sent outputs on moment empty a out =
     let b : Answer = answer naming (record { zxid = next_zxid s; time = now; session = k }) c (hears k now s) command in
-    let ans : Answers (hears k now s) b h (Ok outcome) = subst (λ (x : Moment). Answers (hears k now s) (answer naming x c (hears k now s) command) h (Ok outcome)) moment a in
+    let ans : Answers (hears k now s) b h before sent (Ok outcome) = subst (λ (x : Moment). Answers (hears k now s) (answer naming x c (hears k now s) command) h before sent (Ok outcome)) moment a in
     let e : step naming s (asks c xid command now) ≡ replied c xid b = ap (taken naming c xid command now s) on in
+    let told : sent.items ≡ b.events = ans.1.items ∙ ap (λ (os : List Output). os ++ b.events) empty in
     let same : outputs ≡ (replied c xid b).outputs =
     out
-    ∙ ap (λ (z : ℤ). reply_to c xid z outcome ∷ []) ans.2.last
-    ∙ ap (λ (o : Outcome). reply_to c xid b.state.last o ∷ []) ans.0
-    ∙ ap (λ (es : List Output). es ++ reply_to c xid b.state.last b.outcome ∷ []) (sym ans.1) in
+    ∙ ap (λ (z : ℤ). sent.items ++ reply_to c xid z outcome ∷ []) ans.2.last
+    ∙ ap (λ (o : Outcome). sent.items ++ reply_to c xid b.state.last o ∷ []) ans.0
+    ∙ ap (λ (es : List Output). es ++ reply_to c xid b.state.last b.outcome ∷ []) told in
     record { sent = same ∙ ap (λ (n : Next). n.outputs) (sym e); means = subst (λ (n : Next). Means h n.state) (sym e) ans.2 }
 
 -- ---- the session is heard, and what is answered is answered in the state after that
@@ -104,29 +108,68 @@ same_numbers k now y = go (is_numbered k y)
     go true = refl
     go false = refl
 
+same_connection : (k now : ℤ) (y : Session) → (changed_session k (heard_at now) y).connection ≡ y.connection
+unfolding changed_session heard_at
+same_connection k now y = go (is_numbered k y)
+  where
+    go : (b : Bool) → (cond b (record y { heard = now }) y).connection ≡ y.connection
+    go true = refl
+    go false = refl
+
 still_live : (s : State) (k j now : ℤ) (x : Session) → session_at j s.sessions ≡ Some x → session_at j (hears k now s).sessions ≡ Some (changed_session k (heard_at now) x)
 unfolding hears change_session
 still_live s k j now x live = at_changed (changed_session k (heard_at now)) (same_numbers k now) j s.sessions ∙ ap (option_map (changed_session k (heard_at now))) live
 
+live_given : (s : State) (k : ℤ) (xs : List Session) (x : Session) → All (IsGiven s) xs → session_at k xs ≡ Some x → IsGiven s x
+live_given s k [] x h live = absurd (none_live k x live)
+live_given s k (y ∷ ys) x h live = elim (cases_Bool (is_numbered k y)) [
+  | inl numbered ↦ subst (IsGiven s) (one_session y x (sym (at_first k y ys numbered) ∙ live)) (All-head (IsGiven s) y ys h)
+  | inr other ↦ live_given s k ys x (All-tail (IsGiven s) y ys h) (sym (at_others k y ys other) ∙ live)
+]
+  where
+    one_session : (a b : Session) → Some a ≡ Some b → a ≡ b
+    one_session a b e = cc
+
+-- the moment of a live session's request
+moment_of : (s : State) (x : Session) (k : ℤ) (h : Held) (at : Moment) → Means h s → session_at k s.sessions ≡ Some x → at.session ≡ k → IsMoment s at
+moment_of s x k h at m live same =
+    let given = live_given s k s.sessions x m.numbers live in
+    let number = number_of k s.sessions x live ∙ sym same in
+    record {
+      positive = subst (λ (z : ℤ). pos 1 ≤ℤ z) number given.above;
+      given = subst (λ (z : ℤ). z ≤ℤ s.greatest) number given.within;
+    }
+
 -- what an answer shows where its session was heard
-abbrev pub Shows : Naming → ℕ → State → Command → ℤ → ℤ → Held → Sessions → Moment → Held → Result Outcome Memory → Type 0
-Shows naming c s command k now before sessions at after result =
-    (x : Session) → Means (record before { sessions = sessions }) (hears k now s) → IsMoment (hears k now s) at → session_at at.session (hears k now s).sessions ≡ Some x
-    → Answers (hears k now s) (answer naming at c (hears k now s) command) after result
+abbrev pub Shows : Naming → ℕ → State → Command → ℤ → ℤ → Held → Sessions → Moment → Held → Sent → Sent → Result Outcome Memory → Type 0
+Shows naming c s command k now before sessions at after empty sent result =
+    (x : Session) → Means (record before { sessions = sessions }) (hears k now s) → IsMoment (hears k now s) at → session_at at.session (hears k now s).sessions ≡ Some x → x.connection ≡ Some c
+    → Answers (hears k now s) (answer naming at c (hears k now s) command) after empty sent result
 
-pub shown : (naming : Naming) (c : ℕ) (s : State) (command : Command) (k now : ℤ) (before : Held) (sessions : Sessions) (at : Moment) (after : Held) (result : Result Outcome Memory) → Means before s → session_of c s.sessions ≡ Some k
-    → Keeps sessions (change_session k (heard_at now) s.sessions) (λ j. ephemerals j s.nodes) → at.zxid ≡ before.last +ℤ pos 1 → at.session ≡ k → Shows naming c s command k now before sessions at after result
-    → Answers (hears k now s) (answer naming at c (hears k now s) command) after result
-shown naming c s command k now before sessions at after result m on keeps next same shows =
-    let live = live_on c k s.sessions on in
+pub shown : (naming : Naming) (c : ℕ) (s : State) (command : Command) (k now : ℤ) (before : Held) (sessions : Sessions) (at : Moment) (after : Held) (empty sent : Sent) (result : Result Outcome Memory) → Means before s → IsLiveOn s.sessions c k
+    → Keeps sessions (change_session k (heard_at now) s.sessions) (λ j. ephemerals j s.nodes) → at.session ≡ k → Shows naming c s command k now before sessions at after empty sent result
+    → Answers (hears k now s) (answer naming at c (hears k now s) command) after empty sent result
+shown naming c s command k now before sessions at after empty sent result m live keeps same shows =
     let mid = heard_means before sessions s k now m keeps in
-    let there = still_live s k k now live.session live.live in
-    shows _ mid (is_moment (hears k now s) _ k (record before { sessions = sessions }) at mid there next same)
-    (subst (λ (j : ℤ). session_at j (hears k now s).sessions ≡ Some (changed_session k (heard_at now) live.session)) (sym same) there)
+    let there = still_live s k k now live.one live.live in
+    shows _ mid (moment_of (hears k now s) _ k (record before { sessions = sessions }) at mid there same)
+    (subst (λ (j : ℤ). session_at j (hears k now s).sessions ≡ Some (changed_session k (heard_at now) live.one)) (sym same) there)
+    (same_connection k now live.one ∙ live.on)
 
-pub means_after_memory : (s : State) (a : Answer) (h : Held) (e : Memory) → Answers s a h (Err e) → Means h s
+pub means_after_memory : (s : State) (a : Answer) (h : Held) (before sent : Sent) (e : Memory) → Answers s a h before sent (Err e) → Means h s
 unfolding Answers
-means_after_memory s a h e m = m
+means_after_memory s a h before sent e m = m
+
+pub no_room : false ≡ true → ⊥
+no_room h = cc
+
+-- there is room in an empty list, and for the reply
+pub room_at_first : (v : Sent) → vec_len v ≡ 0 → 1 ≤ vec_capacity v → HasRoom v
+room_at_first v empty low = omega (arith, empty, low)
+
+pub room_for_reply : (s : State) (a : Answer) (h : Held) (before sent : Sent) (outcome : Outcome) → Answers s a h before sent (Ok outcome) → HasRoom sent
+unfolding Answers
+room_for_reply s a h before sent outcome k = k.1.room
 
 pub the_next : (s : State) (before : Held) (z : ℤ) → Means before s → z ≡ before.last +ℤ pos 1 → z ≡ next_zxid s
 unfolding next_zxid
@@ -136,3 +179,7 @@ the_next s before z m e = e ∙ ap (λ (x : ℤ). x +ℤ pos 1) m.last
 pub heard_keeps : (s : State) (mid : Held) (k now : ℤ) → Means mid (hears k now s) → Keeps mid.sessions (change_session k (heard_at now) s.sessions) (λ j. ephemerals j s.nodes)
 unfolding hears
 heard_keeps s mid k now m = m.sessions
+
+-- the last zxid and one more
+pub next_last : (a b : ℤ) → a ≡ b → FitsSigned w64 b → b <ℤ pos (2 ^ 63 - 1) → to_z w64 (of_z w64 (to_z w64 (of_z w64 a) +ℤ pos 1)) ≡ b +ℤ pos 1
+next_last a b same fits low = subst (λ (z : ℤ). to_z w64 (of_z w64 (to_z w64 (of_z w64 z) +ℤ pos 1)) ≡ b +ℤ pos 1) (sym same) (omega (arith, ints))

@@ -1,6 +1,7 @@
 -- Each end of each change over what is held.
-use Rattle.std.proofs.Common.{◌≡◌, ◌≤◌, ◌<◌, ℕ, ℤ, Bool, true, false, cond, not, List, [], ◌∷◌, ◌++◌, Option, Some, None, Result, Ok, Err, length, refl, sym, ap, subst, ◌∙◌, inl, inr, arith, nat_eq, w32, w64, of_z, to_z}
-use Rattle.std.specs.Prelude.{is_some, ◌+◌, ◌≤ℤ◌, ◌==◌, ◌||◌, pos, negsuc, min, nat_le}
+use Rattle.std.proofs.Common.{◌≡◌, ◌≤◌, ◌<◌, ℕ, ℤ, Bool, true, false, cond, not, List, [], ◌∷◌, ◌++◌, Option, Some, None, Result, Ok, Err, length, refl, sym, ap, subst, ◌∙◌, inl, inr, append-nil, arith, nat_eq, w32, w64, of_z, to_z}
+use Rattle.std.specs.Prelude.{Vec, is_some, ◌+◌, ◌≤ℤ◌, ◌==◌, ◌||◌, pos, negsuc, min, nat_le}
+use Rattle.std.specs.Global.{Global}
 use Rattle.std.specs.Ordering.{int_eq}
 use Rattle.std.specs.Option.{option_copied}
 use Rattle.std.specs.Borrow.{Bor}
@@ -8,7 +9,6 @@ use Rattle.std.specs.Int.Signed.{<ℤ-≤ℤ_trans, clash_ℤ}
 use Rattle.std.specs.Result.{IsErrAnd, is_err, OnErr, OnOk}
 use Rattle.std.proofs.lemmas.Result.{err_from_is_err_and}
 use Rattle.std.proofs.lemmas.Bool.{cases_Bool, leb-true, le-leb, eqb-true}
-use Rattle.std.proofs.lemmas.List.Elements.{All-nil}
 use Rattle.std.proofs.lemmas.Bool.Decides.{Decides-eqb, leb_tells}
 use Rattle.std.specs.Int.RustNames.{FitsSigned}
 use Rattle.std.proofs.lemmas.Int.{to_z-of_z, by_lt_z}
@@ -21,22 +21,25 @@ use Rattle.zk_messages.specs.declared.reply.Outcome.TheVariants as outcomes
 use Rattle.tree_state.specs.declared.held.Held.{Held}
 use Rattle.tree_state.specs.declared.held.NotDone.{NotDone}
 use Rattle.tree_state.specs.declared.held.NotDone.TheVariants as stops
+use Rattle.tree_state.specs.declared.message.Output.{Output}
 use Rattle.tree_state.specs.declared.node.Moment.{Moment}
 use Rattle.tree_state.specs.declared.node.Node as code
 use Rattle.tree_state.specs.declared.places.Places.{Places}
 use Rattle.tree_state.specs.declared.session.Sessions.{Sessions}
-use Rattle.tree_state.specs.Commands.{IsTextOf, create, delete, set_content, set_acl}
-use Rattle.tree_state.specs.Nodes.{Path, Node, Place, above, same_path, find, is_there, change, add, remove, name_of_child, name_under, children, has_children, ephemerals, stat_of, size_of, greatest_int}
-use Rattle.tree_state.specs.State.{State, Session, Watch, told, left, on_data, start_at, first_numbers}
-use Rattle.tree_state.specs.Changes.{Trial, failed, done, Naming, Effect, perform, has_owner, is_at_last, is_other_version, name_for, fresh_numbers, with_creation, with_deletion, with_content, with_acl, created, deleted, updated, events_to, no_node, bad_version, not_empty, node_exists, no_children_for_ephemerals, system_error}
+use Rattle.tree_state.specs.declared.watches.Watches.{Watches}
+use Rattle.tree_state.specs.Commands.{IsTextOf, create, delete, set_content, check, set_acl}
+use Rattle.tree_state.specs.Nodes.{Path, Node, Place, above, find, is_there, change, add, remove, children, has_children, ephemerals, stat_of, size_of, greatest_int}
+use Rattle.tree_state.specs.State.{State, Session, Watch, left, on_data}
+use Rattle.tree_state.specs.Changes.{Trial, failed, done, Naming, Effect, perform, has_owner, is_at_last, is_other_version, name_for, fresh_numbers, with_creation, with_deletion, with_content, with_acl, creation_events, left_by_creation, deletion_events, left_by_deletion, content_events, created, deleted, updated, no_node, bad_version, not_empty, node_exists, no_children_for_ephemerals, system_error}
 use Rattle.tree_state.specs.Step.{Answer, answer, with_error, told_only}
 use Rattle.tree_state.specs.Sessions.{Keeps, Owning, with_owned, without_owned}
 use Rattle.tree_state.specs.Places.{node_of, kept_stat, IsSmall, IsFound, IsApart, Holds, content_limit, text_limit}
-use Rattle.tree_state.specs.Trees.{AreOwned, IsGiven, Means, Answers, IsParent, MayCreate, IsMoment, Performs, IsShortContent}
+use Rattle.tree_state.specs.Trees.{Means, Quietly, IsParent, MayCreate, IsMoment, Performs, IsShortContent}
+use Rattle.tree_state.specs.Watches.{Watching}
 use Rattle.tree_state.proofs.Found.{there_found, there_changed, find_changed-same, children_changed}
 use Rattle.tree_state.proofs.ChildNames.{no_children}
-use Rattle.tree_state.proofs.Reading.{absent, present, count_names, stat_is}
-use Rattle.tree_state.proofs.Rows.{create_missing, create_owned, create_full, create_there, create_done, delete_missing, delete_other, delete_filled, delete_done, set_content_missing, set_content_other, set_content_last, set_content_done, set_acl_missing, set_acl_other, set_acl_last, set_acl_done}
+use Rattle.tree_state.proofs.Readings.{absent, present, count_names, stat_is}
+use Rattle.tree_state.proofs.Rows.{create_missing, create_owned, create_full, create_there, create_done, delete_missing, delete_other, delete_filled, delete_done, set_content_missing, set_content_other, set_content_last, set_content_done, check_missing, check_other, check_done, set_acl_missing, set_acl_other, set_acl_last, set_acl_done}
 use Rattle.tree_state.proofs.Owned.{KeepsOwner, others, same_number, equal_numbers, other_number, number_flips, ephemerals_changed, ephemerals_added-own, ephemerals_added-other, ephemerals_removed, ephemerals_removed-other, owned_undone, keeps_same, at_each, owned_changed, owned_added, owned_removed, given_so}
 
 -- ---- tests
@@ -107,45 +110,46 @@ may_create s p n f o l =
 
 -- ---- what a change comes to
 
-pub refused_by : (s : State) (t : Trial ℤ Effect) (h : Held) (number : ℤ) → Means h s → t ≡ failed number → Performs s t h (Err (stops.Refused number))
+pub refused_by : (s : State) (t : Trial ℤ Effect) (h : Held) (outputs : Vec Output Global) (number : ℤ) → Means h s → t ≡ failed number → Performs s t h outputs outputs (Err (stops.Refused number))
 unfolding Performs
-refused_by s t h number m e = subst (λ (x : Trial ℤ Effect). Performs s x h (Err (stops.Refused number))) (sym e) (refl, m)
+refused_by s t h outputs number m e = subst (λ (x : Trial ℤ Effect). Performs s x h outputs outputs (Err (stops.Refused number))) (sym e) (refl, refl, m)
 
-pub no_memory : (s : State) (t : Trial ℤ Effect) (h : Held) → Means h s → Performs s t h (Err stops.Memory)
+pub no_memory : (s : State) (t : Trial ℤ Effect) (h : Held) (before sent : Vec Output Global) → Means h s → Performs s t h before sent (Err stops.Memory)
 unfolding Performs
-no_memory s (failed number) h m = m
-no_memory s (done e) h m = m
+no_memory s (failed number) h before sent m = m
+no_memory s (done e) h before sent m = m
 
 -- an error that was made of want of memory
-pub memory_out : (s : State) (t : Trial ℤ Effect) (h : Held) (r : Result OpResult NotDone) → Means h s → IsErrAnd r (λ e. e ≡ stops.Memory) → Performs s t h r
-memory_out s t h r m i =
+pub memory_out : (s : State) (t : Trial ℤ Effect) (h : Held) (before sent : Vec Output Global) (r : Result OpResult NotDone) → Means h s → IsErrAnd r (λ e. e ≡ stops.Memory) → Performs s t h before sent r
+memory_out s t h before sent r m i =
     let x = err_from_is_err_and r i in
-    subst (Performs s t h) (sym (x.1 ∙ ap Err x.2)) (no_memory s t h m)
+    subst (Performs s t h before sent) (sym (x.1 ∙ ap Err x.2)) (no_memory s t h before sent m)
 
-pub performed : (s : State) (t : Trial ℤ Effect) (e : Effect) (after : Held) (result : OpResult) → t ≡ done e → result ≡ e.result → e.events ≡ [] → Means after e.state → Performs s t after (Ok result)
+pub performed : (s : State) (t : Trial ℤ Effect) (e : Effect) (after : Held) (before sent : Vec Output Global) (result : OpResult) → t ≡ done e → result ≡ e.result → sent.items ≡ before.items ++ e.events → Means after e.state
+    → Performs s t after before sent (Ok result)
 unfolding Performs
-performed s t e after result i r v m = subst (λ (x : Trial ℤ Effect). Performs s x after (Ok result)) (sym i) (r, v, m)
+performed s t e after before sent result i r v m = subst (λ (x : Trial ℤ Effect). Performs s x after before sent (Ok result)) (sym i) (r, v, m)
 
-pub answers_error : (s : State) (a : Answer) (h : Held) (number : ℤ) → Means h s → a ≡ with_error s number → Answers s a h (Ok (outcomes.Error number))
-unfolding Answers with_error
-answers_error s a h number m e = subst (λ (x : Answer). Answers s x h (Ok (outcomes.Error number))) (sym e) (refl, refl, m)
+quietly_error : (s : State) (a : Answer) (h : Held) (number : ℤ) → Means h s → a ≡ with_error s number → Quietly s a h (Ok (outcomes.Error number))
+unfolding Quietly with_error
+quietly_error s a h number m e = subst (λ (x : Answer). Quietly s x h (Ok (outcomes.Error number))) (sym e) (refl, refl, m)
 
-pub answers_only : (s u : State) (a : Answer) (after : Held) (outcome told : Outcome) → a ≡ told_only u told → outcome ≡ told → Means after u → Answers s a after (Ok outcome)
-unfolding Answers told_only
-answers_only s u a after outcome told e o m = subst (λ (x : Answer). Answers s x after (Ok outcome)) (sym e) (o, refl, m)
+quietly_only : (s u : State) (a : Answer) (after : Held) (outcome told : Outcome) → a ≡ told_only u told → outcome ≡ told → Means after u → Quietly s a after (Ok outcome)
+unfolding Quietly told_only
+quietly_only s u a after outcome told e o m = subst (λ (x : Answer). Quietly s x after (Ok outcome)) (sym e) (o, refl, m)
 
 -- ---- a node is changed
 
-changed_means : (h after : Held) (s : State) (p : Path) (f : Node → Node) (ws : List Watch) (z : ℤ) → KeepsOwner f → Means h s → Holds after.places (change p f s.nodes) → after.sessions ≡ h.sessions → ws ≡ [] → after.last ≡ z
-    → Means after (record s { nodes = change p f s.nodes; watches = ws; last = z })
-changed_means h after s p f ws z keeps m holds same none last = record {
+changed_means : (h after : Held) (s : State) (p : Path) (f : Node → Node) (ws : List Watch) (z : ℤ) → KeepsOwner f → Means h s → Holds after.places (change p f s.nodes) → after.sessions ≡ h.sessions → Watching after.watches ws
+    → after.last ≡ z → Means after (record s { nodes = change p f s.nodes; watches = ws; last = z })
+changed_means h after s p f ws z keeps m holds same watched last = record {
   places = holds;
   sessions = keeps_same after.sessions s.sessions (λ k. ephemerals k s.nodes) (λ k. ephemerals k (change p f s.nodes))
       (at_each s (λ k. ephemerals k s.nodes) (λ k. ephemerals k (change p f s.nodes)) s.sessions m.numbers (λ k above. sym (ephemerals_changed k p f s.nodes keeps)))
       (subst (λ (t : Sessions). Keeps t s.sessions (λ k. ephemerals k s.nodes)) (sym same) m.sessions);
   owners = owned_changed s p f ws z keeps m.owners;
   numbers = given_so s (record s { nodes = change p f s.nodes; watches = ws; last = z }) s.sessions refl m.numbers;
-  watches = none;
+  watches = watched;
   last = last;
 }
 
@@ -184,13 +188,14 @@ not_here s p node f found = let none = absent s.nodes p f in cc
 
 -- ---- delete
 
-pub delete_none : (naming : Naming) (at : Moment) (s : State) (p : Path) (v : ℤ) (h : Held) → Means h s → IsFound s.nodes p None → Performs s (perform naming at s (delete p v)) h (Err (stops.Refused no_node))
-delete_none naming at s p v h m f = refused_by s _ h no_node m (delete_missing naming at s p v (absent s.nodes p f))
+pub delete_none : (naming : Naming) (at : Moment) (s : State) (p : Path) (v : ℤ) (h : Held) (outputs : Vec Output Global) → Means h s → IsFound s.nodes p None
+    → Performs s (perform naming at s (delete p v)) h outputs outputs (Err (stops.Refused no_node))
+delete_none naming at s p v h outputs m f = refused_by s _ h outputs no_node m (delete_missing naming at s p v (absent s.nodes p f))
 
-pub delete_wrong : (naming : Naming) (at : Moment) (s : State) (p : Path) (v : ℤ) (h : Held) (n : code.Node) → Means h s → IsFound s.nodes p (Some n) → is_other_version v n.numbers.version ≡ true
-    → Performs s (perform naming at s (delete p v)) h (Err (stops.Refused bad_version))
+pub delete_wrong : (naming : Naming) (at : Moment) (s : State) (p : Path) (v : ℤ) (h : Held) (outputs : Vec Output Global) (n : code.Node) → Means h s → IsFound s.nodes p (Some n) → is_other_version v n.numbers.version ≡ true
+    → Performs s (perform naming at s (delete p v)) h outputs outputs (Err (stops.Refused bad_version))
 unfolding node_of
-delete_wrong naming at s p v h n m f o = refused_by s _ h bad_version m (delete_other naming at s p v (node_of n) (present s.nodes p n f).plain o)
+delete_wrong naming at s p v h outputs n m f o = refused_by s _ h outputs bad_version m (delete_other naming at s p v (node_of n) (present s.nodes p n f).plain o)
 
 has_none : (es : List Place) (p : Path) (n : code.Node) → IsFound es p (Some n) → length n.names.keys ≡ 0 → has_children p es ≡ false
 unfolding has_children
@@ -203,14 +208,10 @@ has_some es p n f some = elim (cases_Bool (length (children p es) == 0)) [
   | inr i ↦ ap not i
 ]
 
-pub delete_full : (naming : Naming) (at : Moment) (s : State) (p : Path) (v : ℤ) (h : Held) (n : code.Node) → Means h s → IsFound s.nodes p (Some n) → is_other_version v n.numbers.version ≡ false → (length n.names.keys ≡ 0 → ⊥)
-    → Performs s (perform naming at s (delete p v)) h (Err (stops.Refused not_empty))
+pub delete_full : (naming : Naming) (at : Moment) (s : State) (p : Path) (v : ℤ) (h : Held) (outputs : Vec Output Global) (n : code.Node) → Means h s → IsFound s.nodes p (Some n) → is_other_version v n.numbers.version ≡ false
+    → (length n.names.keys ≡ 0 → ⊥) → Performs s (perform naming at s (delete p v)) h outputs outputs (Err (stops.Refused not_empty))
 unfolding node_of
-delete_full naming at s p v h n m f o e = refused_by s _ h not_empty m (delete_filled naming at s p v (node_of n) (present s.nodes p n f).plain o (has_some s.nodes p n f e))
-
-no_watch : (s : State) (z : ℤ) (p : Path) → s.watches ≡ [] → ((deleted z p s).events ≡ []) × ((deleted z p s).state.watches ≡ [])
-unfolding deleted told left events_to
-no_watch s z p none = (ap (λ (ws : List Watch). (deleted z p (record s { watches = ws })).events) none, ap (λ (ws : List Watch). (deleted z p (record s { watches = ws })).state.watches) none)
+delete_full naming at s p v h outputs n m f o e = refused_by s _ h outputs not_empty m (delete_filled naming at s p v (node_of n) (present s.nodes p n f).plain o (has_some s.nodes p n f e))
 
 -- what the owner of a node that goes has left
 pub owned_gone : (k owner : ℤ) (p : Path) (es : List Place) (n : Node) → IsApart es → find es p ≡ Some n → n.numbers.owner ≡ owner → without_owned owner p (λ j. ephemerals j es) k ≡ others p (ephemerals k es)
@@ -227,10 +228,10 @@ unfolding with_deletion
 with_deletion_keeps z n = refl
 
 pub gone_means : (h after : Held) (at : Moment) (s : State) (n : List ℕ) (p : Path) (node : Node) (owner : ℤ) → Means h s → find s.nodes (n ∷ p) ≡ Some node → node.numbers.owner ≡ owner
-    → Holds after.places (remove (n ∷ p) (change p (with_deletion at.zxid) s.nodes)) → Keeps after.sessions s.sessions (without_owned owner (n ∷ p) (λ k. ephemerals k s.nodes)) → after.last ≡ at.zxid
-    → Means after (deleted at.zxid (n ∷ p) s).state
+    → Holds after.places (remove (n ∷ p) (change p (with_deletion at.zxid) s.nodes)) → Keeps after.sessions s.sessions (without_owned owner (n ∷ p) (λ k. ephemerals k s.nodes))
+    → Watching after.watches (left_by_deletion (n ∷ p) s.watches) → after.last ≡ at.zxid → Means after (deleted at.zxid (n ∷ p) s).state
 unfolding deleted above
-gone_means h after at s n p node owner m found own holds keeps last = record {
+gone_means h after at s n p node owner m found own holds keeps watched last = record {
   places = holds;
   sessions = keeps_same after.sessions s.sessions (without_owned owner (n ∷ p) (λ k. ephemerals k s.nodes)) (λ k. ephemerals k (remove (n ∷ p) (change p (with_deletion at.zxid) s.nodes)))
       (at_each s (without_owned owner (n ∷ p) (λ k. ephemerals k s.nodes)) (λ k. ephemerals k (remove (n ∷ p) (change p (with_deletion at.zxid) s.nodes))) s.sessions m.numbers
@@ -241,38 +242,35 @@ gone_means h after at s n p node owner m found own holds keeps last = record {
   owners = owned_removed (record s { nodes = change p (with_deletion at.zxid) s.nodes }) (n ∷ p) (deleted at.zxid (n ∷ p) s).state.watches at.zxid
       (owned_changed s p (with_deletion at.zxid) s.watches s.last (with_deletion_keeps at.zxid) m.owners);
   numbers = given_so s (deleted at.zxid (n ∷ p) s).state s.sessions refl m.numbers;
-  watches = (no_watch s at.zxid (n ∷ p) m.watches).1;
+  watches = watched;
   last = last;
 }
 
-pub delete_out : (naming : Naming) (at : Moment) (s : State) (p : Path) (v : ℤ) (h after : Held) (n : code.Node) (owner : ℤ) → Means h s → IsFound s.nodes p (Some n) → is_other_version v n.numbers.version ≡ false
-    → length n.names.keys ≡ 0 → n.numbers.owner ≡ owner → (find s.nodes p ≡ Some (node_of n) → (node_of n).numbers.owner ≡ owner → has_children p s.nodes ≡ false → Means after (deleted at.zxid p s).state)
-    → Performs s (perform naming at s (delete p v)) after (Ok results.Deleted)
+pub delete_out : (naming : Naming) (at : Moment) (s : State) (p : Path) (v : ℤ) (h after : Held) (before sent : Vec Output Global) (n : code.Node) (owner : ℤ) → Means h s → IsFound s.nodes p (Some n)
+    → is_other_version v n.numbers.version ≡ false → length n.names.keys ≡ 0 → n.numbers.owner ≡ owner → sent.items ≡ before.items ++ deletion_events p s.watches
+    → (find s.nodes p ≡ Some (node_of n) → (node_of n).numbers.owner ≡ owner → has_children p s.nodes ≡ false → Means after (deleted at.zxid p s).state)
+    → Performs s (perform naming at s (delete p v)) after before sent (Ok results.Deleted)
 unfolding node_of deleted
-delete_out naming at s p v h after n owner m f o e own gone =
+delete_out naming at s p v h after before sent n owner m f o e own told gone =
     let found = (present s.nodes p n f).plain in
     let none = has_none s.nodes p n f e in
-    performed s _ (deleted at.zxid p s) after results.Deleted (delete_done naming at s p v (node_of n) found o none) refl (no_watch s at.zxid p m.watches).0 (gone found own none)
+    performed s _ (deleted at.zxid p s) after before sent results.Deleted (delete_done naming at s p v (node_of n) found o none) refl told (gone found own none)
 
 -- ---- setData
 
-pub content_none : (naming : Naming) (at : Moment) (s : State) (p : Path) (d : Option (List ℕ)) (v : ℤ) (h : Held) → Means h s → IsFound s.nodes p None
-    → Performs s (perform naming at s (set_content p d v)) h (Err (stops.Refused no_node))
-content_none naming at s p d v h m f = refused_by s _ h no_node m (set_content_missing naming at s p d v (absent s.nodes p f))
+pub content_none : (naming : Naming) (at : Moment) (s : State) (p : Path) (d : Option (List ℕ)) (v : ℤ) (h : Held) (outputs : Vec Output Global) → Means h s → IsFound s.nodes p None
+    → Performs s (perform naming at s (set_content p d v)) h outputs outputs (Err (stops.Refused no_node))
+content_none naming at s p d v h outputs m f = refused_by s _ h outputs no_node m (set_content_missing naming at s p d v (absent s.nodes p f))
 
-pub content_wrong : (naming : Naming) (at : Moment) (s : State) (p : Path) (d : Option (List ℕ)) (v : ℤ) (h : Held) (n : code.Node) → Means h s → IsFound s.nodes p (Some n) → is_other_version v n.numbers.version ≡ true
-    → Performs s (perform naming at s (set_content p d v)) h (Err (stops.Refused bad_version))
+pub content_wrong : (naming : Naming) (at : Moment) (s : State) (p : Path) (d : Option (List ℕ)) (v : ℤ) (h : Held) (outputs : Vec Output Global) (n : code.Node) → Means h s → IsFound s.nodes p (Some n)
+    → is_other_version v n.numbers.version ≡ true → Performs s (perform naming at s (set_content p d v)) h outputs outputs (Err (stops.Refused bad_version))
 unfolding node_of
-content_wrong naming at s p d v h n m f o = refused_by s _ h bad_version m (set_content_other naming at s p d v (node_of n) (present s.nodes p n f).plain o)
+content_wrong naming at s p d v h outputs n m f o = refused_by s _ h outputs bad_version m (set_content_other naming at s p d v (node_of n) (present s.nodes p n f).plain o)
 
-pub content_last : (naming : Naming) (at : Moment) (s : State) (p : Path) (d : Option (List ℕ)) (v : ℤ) (h : Held) (n : code.Node) → Means h s → IsFound s.nodes p (Some n) → is_other_version v n.numbers.version ≡ false
-    → greatest_int ≤ n.numbers.version → Performs s (perform naming at s (set_content p d v)) h (Err (stops.Refused system_error))
+pub content_last : (naming : Naming) (at : Moment) (s : State) (p : Path) (d : Option (List ℕ)) (v : ℤ) (h : Held) (outputs : Vec Output Global) (n : code.Node) → Means h s → IsFound s.nodes p (Some n)
+    → is_other_version v n.numbers.version ≡ false → greatest_int ≤ n.numbers.version → Performs s (perform naming at s (set_content p d v)) h outputs outputs (Err (stops.Refused system_error))
 unfolding node_of
-content_last naming at s p d v h n m f o l = refused_by s _ h system_error m (set_content_last naming at s p d v (node_of n) (present s.nodes p n f).plain o (full_so n.numbers.version l))
-
-no_data_watch : (at : Moment) (p : Path) (d : Option (List ℕ)) (n : Node) (s : State) → s.watches ≡ [] → ((updated at p d n s).events ≡ []) × (left on_data p s.watches ≡ [])
-unfolding updated told left events_to
-no_data_watch at p d n s none = (ap (λ (ws : List Watch). events_to (pos 3) p (told on_data p ws)) none, ap (left on_data p) none)
+content_last naming at s p d v h outputs n m f o l = refused_by s _ h outputs system_error m (set_content_last naming at s p d v (node_of n) (present s.nodes p n f).plain o (full_so n.numbers.version l))
 
 with_content_keeps : (at : Moment) (d : Option (List ℕ)) → KeepsOwner (with_content at d)
 unfolding with_content
@@ -283,46 +281,75 @@ unfolding size_of
 short_content None h = omega arith
 short_content (Some bytes) h = h
 
-set_so : (naming : Naming) (at : Moment) (s : State) (p : Path) (d : Option (List ℕ)) (v : ℤ) (h after : Held) (n : Node) (stat : Stat) → find s.nodes p ≡ Some n → is_other_version v n.numbers.version ≡ false
-    → is_at_last n.numbers.version ≡ false → Means h s → Holds after.places (change p (with_content at d) s.nodes) → after.sessions ≡ h.sessions → after.last ≡ at.zxid
+set_so : (naming : Naming) (at : Moment) (s : State) (p : Path) (d : Option (List ℕ)) (v : ℤ) (h after : Held) (before sent : Vec Output Global) (n : Node) (stat : Stat) → find s.nodes p ≡ Some n
+    → is_other_version v n.numbers.version ≡ false → is_at_last n.numbers.version ≡ false → Means h s → sent.items ≡ before.items ++ content_events p s.watches
+    → Holds after.places (change p (with_content at d) s.nodes) → Watching after.watches (left on_data p s.watches) → after.sessions ≡ h.sessions → after.last ≡ at.zxid
     → ((u : State) → Means after u → find u.nodes p ≡ Some (with_content at d n) → stat ≡ stat_of u.nodes p (with_content at d n))
-    → Performs s (perform naming at s (set_content p d v)) after (Ok (results.Changed stat))
+    → Performs s (perform naming at s (set_content p d v)) after before sent (Ok (results.Changed stat))
 unfolding updated
-set_so naming at s p d v h after n stat found o room m set same last told =
-    let none = no_data_watch at p d n s m.watches in
-    let means : Means after (updated at p d n s).state = changed_means h after s p (with_content at d) (left on_data p s.watches) at.zxid (with_content_keeps at d) m set same none.1 last in
-    let e = changed_stat s (updated at p d n s).state p (with_content at d) n stat refl found (told (updated at p d n s).state means) in
-    performed s _ (updated at p d n s) after (results.Changed stat) (set_content_done naming at s p d v n found o room) (ap results.Changed e) none.0 means
+set_so naming at s p d v h after before sent n stat found o room m told set watched same last now =
+    let means : Means after (updated at p d n s).state = changed_means h after s p (with_content at d) (left on_data p s.watches) at.zxid (with_content_keeps at d) m set same watched last in
+    let e = changed_stat s (updated at p d n s).state p (with_content at d) n stat refl found (now (updated at p d n s).state means) in
+    performed s _ (updated at p d n s) after before sent (results.Changed stat) (set_content_done naming at s p d v n found o room) (ap results.Changed e) told means
 
 -- a text of the changed node's path, and what is told of each node then
-pub content_set : (naming : Naming) (at : Moment) (s : State) (p : Path) (d c : Option (List ℕ)) (v : ℤ) (h after : Held) (text : List ℕ) (n : code.Node) (stat : Stat) → Means h s → IsTextOf text p → IsFound s.nodes p (Some n)
-    → is_other_version v n.numbers.version ≡ false → n.numbers.version < greatest_int → IsShortContent d → c ≡ d
+pub content_set : (naming : Naming) (at : Moment) (s : State) (p : Path) (d c : Option (List ℕ)) (v : ℤ) (h after : Held) (before sent : Vec Output Global) (text : List ℕ) (n : code.Node) (stat : Stat) → Means h s → IsTextOf text p
+    → IsFound s.nodes p (Some n) → is_other_version v n.numbers.version ≡ false → n.numbers.version < greatest_int → IsShortContent d → c ≡ d → sent.items ≡ before.items ++ content_events p s.watches
     → ((es : List Place) (q : Path) (x : Node) → Holds h.places es → IsTextOf text q → find es q ≡ Some x → x.numbers.version < greatest_int → size_of c ≤ content_limit → Holds after.places (change q (with_content at c) es))
-    → after.sessions ≡ h.sessions → after.last ≡ at.zxid
+    → Watching after.watches (left on_data p s.watches) → after.sessions ≡ h.sessions → after.last ≡ at.zxid
     → ((u : State) (q : Path) (x : Node) → Means after u → IsTextOf text q → find u.nodes q ≡ Some x → stat ≡ stat_of u.nodes q x)
-    → Performs s (perform naming at s (set_content p d v)) after (Ok (results.Changed stat))
+    → Performs s (perform naming at s (set_content p d v)) after before sent (Ok (results.Changed stat))
 unfolding node_of
-content_set naming at s p d c v h after text n stat m t f o low short copy holds same last told =
+content_set naming at s p d c v h after before sent text n stat m t f o low short copy told holds watched same last now =
     let found = (present s.nodes p n f).plain in
     let set : Holds after.places (change p (with_content at d) s.nodes) =
     subst (λ (x : Option (List ℕ)). Holds after.places (change p (with_content at x) s.nodes)) copy
     (holds s.nodes p (node_of n) m.places t found low (subst (λ (x : Option (List ℕ)). size_of x ≤ content_limit) (sym copy) (short_content d short))) in
-    set_so naming at s p d v h after (node_of n) stat found o (room_so n.numbers.version low) m set same last (λ u mu fu. told u p (with_content at d (node_of n)) mu t fu)
+    set_so naming at s p d v h after before sent (node_of n) stat found o (room_so n.numbers.version low) m told set watched same last (λ u mu fu. now u p (with_content at d (node_of n)) mu t fu)
+
+-- ---- check
+
+pub check_none : (naming : Naming) (at : Moment) (s : State) (p : Path) (v : ℤ) (h : Held) (outputs : Vec Output Global) → Means h s → IsFound s.nodes p None
+    → Performs s (perform naming at s (check p v)) h outputs outputs (Err (stops.Refused no_node))
+check_none naming at s p v h outputs m f = refused_by s _ h outputs no_node m (check_missing naming at s p v (absent s.nodes p f))
+
+pub check_wrong : (naming : Naming) (at : Moment) (s : State) (p : Path) (v : ℤ) (h : Held) (outputs : Vec Output Global) (n : code.Node) → Means h s → IsFound s.nodes p (Some n) → is_other_version v n.numbers.version ≡ true
+    → Performs s (perform naming at s (check p v)) h outputs outputs (Err (stops.Refused bad_version))
+unfolding node_of
+check_wrong naming at s p v h outputs n m f o = refused_by s _ h outputs bad_version m (check_other naming at s p v (node_of n) (present s.nodes p n f).plain o)
+
+-- a zxid was drawn, and nothing else changed
+drawn : (h after : Held) (s : State) (z : ℤ) → Means h s → after.places ≡ h.places → after.sessions ≡ h.sessions → after.watches ≡ h.watches → after.last ≡ z → Means after (record s { last = z })
+drawn h after s z m there same watched last = record {
+  places = subst (λ (t : Places). Holds t s.nodes) (sym there) m.places;
+  sessions = subst (λ (t : Sessions). Keeps t s.sessions (λ k. ephemerals k s.nodes)) (sym same) m.sessions;
+  owners = record { given = m.owners.given; childless = m.owners.childless; free = m.owners.free };
+  numbers = given_so s (record s { last = z }) s.sessions refl m.numbers;
+  watches = subst (λ (t : Watches). Watching t s.watches) (sym watched) m.watches;
+  last = last;
+}
+
+pub check_passed : (naming : Naming) (at : Moment) (s : State) (p : Path) (v : ℤ) (h after : Held) (outputs : Vec Output Global) (n : code.Node) → Means h s → IsFound s.nodes p (Some n) → is_other_version v n.numbers.version ≡ false
+    → after.places ≡ h.places → after.sessions ≡ h.sessions → after.watches ≡ h.watches → after.last ≡ at.zxid → Performs s (perform naming at s (check p v)) after outputs outputs (Ok results.Checked)
+unfolding node_of
+check_passed naming at s p v h after outputs n m f o there same watched last =
+    let e : Effect = record { state = record s { last = at.zxid }; result = results.Checked; events = [] } in
+    performed s _ e after outputs outputs results.Checked (check_done naming at s p v (node_of n) (present s.nodes p n f).plain o) refl (sym (append-nil outputs.items)) (drawn h after s at.zxid m there same watched last)
 
 -- ---- setACL
 
-pub acl_none : (naming : Naming) (at : Moment) (c : ℕ) (s : State) (p : Path) (v : ℤ) (h : Held) → Means h s → IsFound s.nodes p None → Answers s (answer naming at c s (set_acl p v)) h (Ok (outcomes.Error no_node))
-acl_none naming at c s p v h m f = answers_error s _ h no_node m (set_acl_missing naming at c s p v (absent s.nodes p f))
+pub acl_none : (naming : Naming) (at : Moment) (c : ℕ) (s : State) (p : Path) (v : ℤ) (h : Held) → Means h s → IsFound s.nodes p None → Quietly s (answer naming at c s (set_acl p v)) h (Ok (outcomes.Error no_node))
+acl_none naming at c s p v h m f = quietly_error s _ h no_node m (set_acl_missing naming at c s p v (absent s.nodes p f))
 
 pub acl_wrong : (naming : Naming) (at : Moment) (c : ℕ) (s : State) (p : Path) (v : ℤ) (h : Held) (n : code.Node) → Means h s → IsFound s.nodes p (Some n) → is_other_version v n.numbers.aversion ≡ true
-    → Answers s (answer naming at c s (set_acl p v)) h (Ok (outcomes.Error bad_version))
+    → Quietly s (answer naming at c s (set_acl p v)) h (Ok (outcomes.Error bad_version))
 unfolding node_of
-acl_wrong naming at c s p v h n m f o = answers_error s _ h bad_version m (set_acl_other naming at c s p v (node_of n) (present s.nodes p n f).plain o)
+acl_wrong naming at c s p v h n m f o = quietly_error s _ h bad_version m (set_acl_other naming at c s p v (node_of n) (present s.nodes p n f).plain o)
 
 pub acl_last : (naming : Naming) (at : Moment) (c : ℕ) (s : State) (p : Path) (v : ℤ) (h : Held) (n : code.Node) → Means h s → IsFound s.nodes p (Some n) → is_other_version v n.numbers.aversion ≡ false
-    → greatest_int ≤ n.numbers.aversion → Answers s (answer naming at c s (set_acl p v)) h (Ok (outcomes.Error system_error))
+    → greatest_int ≤ n.numbers.aversion → Quietly s (answer naming at c s (set_acl p v)) h (Ok (outcomes.Error system_error))
 unfolding node_of
-acl_last naming at c s p v h n m f o l = answers_error s _ h system_error m (set_acl_last naming at c s p v (node_of n) (present s.nodes p n f).plain o (full_so n.numbers.aversion l))
+acl_last naming at c s p v h n m f o l = quietly_error s _ h system_error m (set_acl_last naming at c s p v (node_of n) (present s.nodes p n f).plain o (full_so n.numbers.aversion l))
 
 with_acl_keeps : KeepsOwner with_acl
 unfolding with_acl
@@ -331,55 +358,29 @@ with_acl_keeps n = refl
 pub acl_set : (naming : Naming) (at : Moment) (c : ℕ) (s : State) (p : Path) (v : ℤ) (h after : Held) (text : List ℕ) (n : code.Node) (stat : Stat) → Means h s → IsTextOf text p → IsFound s.nodes p (Some n)
     → is_other_version v n.numbers.aversion ≡ false → n.numbers.aversion < greatest_int
     → ((es : List Place) (q : Path) (x : Node) → Holds h.places es → IsTextOf text q → find es q ≡ Some x → x.numbers.aversion < greatest_int → Holds after.places (change q with_acl es))
-    → after.sessions ≡ h.sessions → after.last ≡ at.zxid
+    → after.watches ≡ h.watches → after.sessions ≡ h.sessions → after.last ≡ at.zxid
     → ((u : State) (q : Path) (x : Node) → Means after u → IsTextOf text q → find u.nodes q ≡ Some x → stat ≡ stat_of u.nodes q x)
-    → Answers s (answer naming at c s (set_acl p v)) after (Ok (outcomes.Stat stat))
+    → Quietly s (answer naming at c s (set_acl p v)) after (Ok (outcomes.Stat stat))
 unfolding node_of
-acl_set naming at c s p v h after text n stat m t f o low holds same last told =
+acl_set naming at c s p v h after text n stat m t f o low holds watched same last told =
     let found = (present s.nodes p n f).plain in
     let u : State = record s { nodes = change p with_acl s.nodes; last = at.zxid } in
-    let means : Means after u = changed_means h after s p with_acl s.watches at.zxid with_acl_keeps m (holds s.nodes p (node_of n) m.places t found low) same m.watches last in
+    let kept = subst (λ (x : Watches). Watching x s.watches) (sym watched) m.watches in
+    let means : Means after u = changed_means h after s p with_acl s.watches at.zxid with_acl_keeps m (holds s.nodes p (node_of n) m.places t found low) same kept last in
     let e = changed_stat s u p with_acl (node_of n) stat refl found (λ there. told u p (with_acl (node_of n)) means t there) in
-    answers_only s u _ after (outcomes.Stat stat) (outcomes.Stat (stat_of s.nodes p (with_acl (node_of n)))) (set_acl_done naming at c s p v (node_of n) found o (room_so n.numbers.aversion low)) (ap outcomes.Stat e) means
-
--- ---- the start
-
-root_free : (creations : ℕ) (p : Path) (n : Node) → find (start_at creations).nodes p ≡ Some n → n.numbers.owner ≡ pos 0
-unfolding start_at first_numbers find same_path
-root_free creations [] n h =
-    let same : record { content = None; numbers = first_numbers creations } ≡ n = cc in
-    subst (λ (x : Node). x.numbers.owner ≡ pos 0) same refl
-root_free creations (m ∷ p) n h = absurd cc
-
-alone_owned : (creations : ℕ) → AreOwned (start_at creations)
-unfolding start_at has_children children name_of_child name_under
-alone_owned creations = record {
-  given = λ p n at_p. subst (λ (z : ℤ). z ≤ℤ pos 0) (sym (root_free creations p n at_p)) (record { le = tt });
-  childless = λ p n at_p owned. refl;
-  free = λ n at_root. root_free creations [] n at_root;
-}
-
-pub start_means : (h : Held) (creations : ℕ) → Holds h.places (start_at creations).nodes → ((owned : Owning) → Keeps h.sessions [] owned) → h.last ≡ pos 0 → Means h (start_at creations)
-unfolding start_at
-start_means h creations holds keeps last = record {
-  places = holds;
-  sessions = keeps (λ k. ephemerals k (start_at creations).nodes);
-  owners = alone_owned creations;
-  numbers = All-nil (IsGiven (start_at creations));
-  watches = refl;
-  last = last;
-}
+    quietly_only s u _ after (outcomes.Stat stat) (outcomes.Stat (stat_of s.nodes p (with_acl (node_of n)))) (set_acl_done naming at c s p v (node_of n) found o (room_so n.numbers.aversion low)) (ap outcomes.Stat e) means
 
 -- ---- create
 
 -- a session did not come to own one more
-pub owning_failed : (h after : Held) (s : State) → Means h s → ((xs : List Session) (owned : Owning) → Keeps h.sessions xs owned → Keeps after.sessions xs owned) → after.places ≡ h.places → after.last ≡ h.last → Means after s
-owning_failed h after s m keeps same last = record {
+pub owning_failed : (h after : Held) (s : State) → Means h s → ((xs : List Session) (owned : Owning) → Keeps h.sessions xs owned → Keeps after.sessions xs owned) → after.places ≡ h.places → after.watches ≡ h.watches → after.last ≡ h.last
+    → Means after s
+owning_failed h after s m keeps same watched last = record {
   places = subst (λ (t : Places). Holds t s.nodes) (sym same) m.places;
   sessions = keeps s.sessions (λ k. ephemerals k s.nodes) m.sessions;
   owners = m.owners;
   numbers = m.numbers;
-  watches = m.watches;
+  watches = subst (λ (t : Watches). Watching t s.watches) (sym watched) m.watches;
   last = last ∙ m.last;
 }
 
@@ -398,46 +399,48 @@ unfolding IsFound
 found_so es p None b f e = there_found p es ∙ ap is_some f ∙ e
 found_so es p (Some n) b f e = there_found p es ∙ ap is_some f.plain ∙ e
 
-pub create_exists : (naming : Naming) (at : Moment) (s : State) (p : Path) (n m : List ℕ) (d : Option (List ℕ)) (q e : Bool) (up : Node) (h : Held) (o : Option (Bor code.Node)) → Means h s → IsParent s p up
-    → name_for naming p n q up ≡ Some m → IsFound s.nodes (m ∷ p) (option_copied o) → true ≡ is_some o → Performs s (perform naming at s (create p n d q e)) h (Err (stops.Refused node_exists))
-create_exists naming at s p n m d q e up h o means parent named f there =
-    refused_by s _ h node_exists means (create_there naming at s p n m d q e up parent named (found_so s.nodes (m ∷ p) o true f (sym there)))
+pub create_exists : (naming : Naming) (at : Moment) (s : State) (p : Path) (n m : List ℕ) (d : Option (List ℕ)) (q e : Bool) (up : Node) (h : Held) (outputs : Vec Output Global) (o : Option (Bor code.Node)) → Means h s → IsParent s p up
+    → name_for naming p n q up ≡ Some m → IsFound s.nodes (m ∷ p) (option_copied o) → true ≡ is_some o → Performs s (perform naming at s (create p n d q e)) h outputs outputs (Err (stops.Refused node_exists))
+create_exists naming at s p n m d q e up h outputs o means parent named f there =
+    refused_by s _ h outputs node_exists means (create_there naming at s p n m d q e up parent named (found_so s.nodes (m ∷ p) o true f (sym there)))
 
 -- the session of a new ephemeral comes to own it, and nothing else changes
 pub record Joins (h mid : Held) (session : ℤ) (text : List ℕ) (ephemeral : Bool) : Type 0 where
   pub places : mid.places ≡ h.places
+  pub watches : mid.watches ≡ h.watches
   pub last : mid.last ≡ h.last
   pub owns : (xs : List Session) (owned : Owning) (p : Path) → Keeps h.sessions xs owned → IsTextOf text p → Keeps mid.sessions xs (cond ephemeral (with_owned session p owned) owned)
 
 -- and goes out of its hands again
 pub record Leaves (mid after : Held) (left : Places) (session : ℤ) (text : List ℕ) (ephemeral : Bool) : Type 0 where
   pub places : after.places ≡ left
+  pub watches : after.watches ≡ mid.watches
   pub last : after.last ≡ mid.last
   pub owns : (xs : List Session) (owned : Owning) (p : Path) → Keeps mid.sessions xs owned → IsTextOf text p → Keeps after.sessions xs (cond ephemeral (without_owned session p owned) owned)
 
-pub no_join : (h mid : Held) (session : ℤ) (text : List ℕ) (e : Bool) → e ≡ false → mid ≡ record { places = h.places; sessions = h.sessions; last = h.last } → Joins h mid session text e
-no_join h mid session text e off same = subst (λ (x : Held). Joins h x session text e) (sym same) (subst (Joins h h session text) (sym off) (record { places = refl; last = refl; owns = λ xs owned p keeps t. keeps }))
+pub no_join : (h mid : Held) (session : ℤ) (text : List ℕ) (e : Bool) → e ≡ false → mid ≡ record { places = h.places; sessions = h.sessions; watches = h.watches; last = h.last } → Joins h mid session text e
+no_join h mid session text e off same = subst (λ (x : Held). Joins h x session text e) (sym same) (subst (Joins h h session text) (sym off) (record { places = refl; watches = refl; last = refl; owns = λ xs owned p keeps t. keeps }))
 
-pub join : (h mid : Held) (j session : ℤ) (text : List ℕ) (e : Bool) (sessions : Sessions) → e ≡ true → j ≡ session → mid ≡ record { places = h.places; sessions = sessions; last = h.last }
+pub join : (h mid : Held) (j session : ℤ) (text : List ℕ) (e : Bool) (sessions : Sessions) → e ≡ true → j ≡ session → mid ≡ record { places = h.places; sessions = sessions; watches = h.watches; last = h.last }
     → ((xs : List Session) (owned : Owning) (p : Path) → Keeps h.sessions xs owned → IsTextOf text p → Keeps sessions xs (with_owned j p owned)) → Joins h mid session text e
 join h mid j session text e sessions on same is own =
-    let after : Held = record { places = h.places; sessions = sessions; last = h.last } in
+    let after : Held = record { places = h.places; sessions = sessions; watches = h.watches; last = h.last } in
     subst (λ (x : Held). Joins h x session text e) (sym is)
-    (subst (λ (z : ℤ). Joins h after z text e) same (subst (Joins h after j text) (sym on) (record { places = refl; last = refl; owns = own })))
+    (subst (λ (z : ℤ). Joins h after z text e) same (subst (Joins h after j text) (sym on) (record { places = refl; watches = refl; last = refl; owns = own })))
 
-pub leave_none : (mid after : Held) (session : ℤ) (text : List ℕ) (e : Bool) (places : Places) → e ≡ false → after ≡ record { places = places; sessions = mid.sessions; last = mid.last }
+pub leave_none : (mid after : Held) (session : ℤ) (text : List ℕ) (e : Bool) (places : Places) → e ≡ false → after ≡ record { places = places; sessions = mid.sessions; watches = mid.watches; last = mid.last }
     → Leaves mid after places session text e
 leave_none mid after session text e places off is =
-    let left : Held = record { places = places; sessions = mid.sessions; last = mid.last } in
+    let left : Held = record { places = places; sessions = mid.sessions; watches = mid.watches; last = mid.last } in
     subst (λ (x : Held). Leaves mid x places session text e) (sym is)
-    (subst (Leaves mid left places session text) (sym off) (record { places = refl; last = refl; owns = λ xs owned p keeps t. keeps }))
+    (subst (Leaves mid left places session text) (sym off) (record { places = refl; watches = refl; last = refl; owns = λ xs owned p keeps t. keeps }))
 
-pub leave : (mid after : Held) (j session : ℤ) (text : List ℕ) (e : Bool) (places : Places) (sessions : Sessions) → e ≡ true → j ≡ session → after ≡ record { places = places; sessions = sessions; last = mid.last }
+pub leave : (mid after : Held) (j session : ℤ) (text : List ℕ) (e : Bool) (places : Places) (sessions : Sessions) → e ≡ true → j ≡ session → after ≡ record { places = places; sessions = sessions; watches = mid.watches; last = mid.last }
     → ((xs : List Session) (owned : Owning) (p : Path) → Keeps mid.sessions xs owned → IsTextOf text p → Keeps sessions xs (without_owned j p owned)) → Leaves mid after places session text e
 leave mid after j session text e places sessions on same is disown =
-    let left : Held = record { places = places; sessions = sessions; last = mid.last } in
+    let left : Held = record { places = places; sessions = sessions; watches = mid.watches; last = mid.last } in
     subst (λ (x : Held). Leaves mid x places session text e) (sym is)
-    (subst (λ (z : ℤ). Leaves mid left places z text e) same (subst (Leaves mid left places j text) (sym on) (record { places = refl; last = refl; owns = disown })))
+    (subst (λ (z : ℤ). Leaves mid left places z text e) same (subst (Leaves mid left places j text) (sym on) (record { places = refl; watches = refl; last = refl; owns = disown })))
 
 -- a node was not added: all is as it was
 undone_so : (e : Bool) (session k : ℤ) (p : Path) (es : List Place) → is_there es p ≡ false
@@ -457,7 +460,7 @@ not_added h mid after places s session text e p m t vacant joins leaves holds =
           (leaves.owns s.sessions both p (joins.owns s.sessions own p m.sessions t) t);
       owners = m.owners;
       numbers = m.numbers;
-      watches = m.watches;
+      watches = subst (λ (u : Watches). Watching u s.watches) (sym (leaves.watches ∙ joins.watches)) m.watches;
       last = leaves.last ∙ joins.last ∙ m.last;
     }
 
@@ -493,15 +496,11 @@ unfolding fresh_numbers
 fresh_given s at true mo = mo.given
 fresh_given s at false mo = not_below at.session s.greatest mo.positive mo.given
 
-no_create_watch : (at : Moment) (p : Path) (m : List ℕ) (n : Node) (s : State) → s.watches ≡ [] → ((created at p m n s).events ≡ []) × ((created at p m n s).state.watches ≡ [])
-unfolding created told left events_to
-no_create_watch at p m n s none = (ap (λ (ws : List Watch). (created at p m n (record s { watches = ws })).events) none, ap (λ (ws : List Watch). (created at p m n (record s { watches = ws })).state.watches) none)
-
 made_means : (h mid after : Held) (at : Moment) (s : State) (text : List ℕ) (p : Path) (m : List ℕ) (up : Node) (d : Option (List ℕ)) (e : Bool) → Means h s → IsMoment s at → IsTextOf text (m ∷ p) → IsParent s p up → is_there s.nodes (m ∷ p) ≡ false
-    → Joins h mid at.session text e → after.sessions ≡ mid.sessions → Holds after.places (add (m ∷ p) (record { content = d; numbers = fresh_numbers at e }) (change p (with_creation at.zxid) s.nodes)) → after.last ≡ at.zxid
-    → Means after (created at p m (record { content = d; numbers = fresh_numbers at e }) s).state
+    → Joins h mid at.session text e → after.sessions ≡ mid.sessions → Holds after.places (add (m ∷ p) (record { content = d; numbers = fresh_numbers at e }) (change p (with_creation at.zxid) s.nodes))
+    → Watching after.watches (left_by_creation p m s.watches) → after.last ≡ at.zxid → Means after (created at p m (record { content = d; numbers = fresh_numbers at e }) s).state
 unfolding created with_creation
-made_means h mid after at s text p m up d e means mo t parent vacant joins same holds last =
+made_means h mid after at s text p m up d e means mo t parent vacant joins same holds watched last =
     let own : Owning = λ k. ephemerals k s.nodes in
     let f = with_creation at.zxid in
     let node : Node = record { content = d; numbers = fresh_numbers at e } in
@@ -516,30 +515,32 @@ made_means h mid after at s text p m up d e means mo t parent vacant joins same 
       owners = owned_added v m p node (f up) u.watches u.last (there_changed p (m ∷ p) f s.nodes ∙ vacant) (find_changed-same p f up s.nodes parent.there) (no_owner up parent.free) (fresh_given s at e mo)
           (children_changed p (m ∷ p) f s.nodes ∙ no_children (m ∷ p) s.nodes means.places.rooted vacant) (owned_changed s p f s.watches s.last (with_creation_keeps at.zxid) means.owners);
       numbers = given_so s u s.sessions refl means.numbers;
-      watches = (no_create_watch at p m node s means.watches).1;
+      watches = watched;
       last = last;
     }
 
-created_so : (naming : Naming) (at : Moment) (s : State) (p : Path) (n m : List ℕ) (d : Option (List ℕ)) (q e : Bool) (up : Node) (after : Held) (made : List ℕ) → IsParent s p up → name_for naming p n q up ≡ Some m
-    → is_there s.nodes (m ∷ p) ≡ false → made ≡ text_of (m ∷ p) → s.watches ≡ [] → Means after (created at p m (record { content = d; numbers = fresh_numbers at e }) s).state
-    → Performs s (perform naming at s (create p n d q e)) after (Ok (results.Created made))
+created_so : (naming : Naming) (at : Moment) (s : State) (p : Path) (n m : List ℕ) (d : Option (List ℕ)) (q e : Bool) (up : Node) (after : Held) (before sent : Vec Output Global) (made : List ℕ) → IsParent s p up
+    → name_for naming p n q up ≡ Some m → is_there s.nodes (m ∷ p) ≡ false → made ≡ text_of (m ∷ p) → sent.items ≡ before.items ++ creation_events p m s.watches
+    → Means after (created at p m (record { content = d; numbers = fresh_numbers at e }) s).state → Performs s (perform naming at s (create p n d q e)) after before sent (Ok (results.Created made))
 unfolding created
-created_so naming at s p n m d q e up after made parent named vacant spelled none means =
+created_so naming at s p n m d q e up after before sent made parent named vacant spelled told means =
     let node : Node = record { content = d; numbers = fresh_numbers at e } in
-    performed s _ (created at p m node s) after (results.Created made) (create_done naming at s p n m d q e up parent named vacant) (ap results.Created spelled) (no_create_watch at p m node s none).0 means
+    performed s _ (created at p m node s) after before sent (results.Created made) (create_done naming at s p n m d q e up parent named vacant) (ap results.Created spelled) told means
 
-pub create_makes : (naming : Naming) (at : Moment) (s : State) (p : Path) (n m : List ℕ) (d c : Option (List ℕ)) (q e : Bool) (up : Node) (h mid after : Held) (text made : List ℕ) (o : Option (Bor code.Node))
+pub create_makes : (naming : Naming) (at : Moment) (s : State) (p : Path) (n m : List ℕ) (d c : Option (List ℕ)) (q e : Bool) (up : Node) (h mid after : Held) (before sent : Vec Output Global) (text made : List ℕ) (o : Option (Bor code.Node))
     → Means h s → IsTextOf text (m ∷ p) → IsMoment s at → IsParent s p up → name_for naming p n q up ≡ Some m → IsFound s.nodes (m ∷ p) (option_copied o) → false ≡ is_some o → IsShortContent d → length text ≤ text_limit → c ≡ d → made ≡ text
-    → Joins h mid at.session text e → after.sessions ≡ mid.sessions → after.last ≡ at.zxid
+    → sent.items ≡ before.items ++ creation_events p m s.watches → Joins h mid at.session text e → after.sessions ≡ mid.sessions
+    → ((ws : List Watch) (r : Path) (k : List ℕ) → Watching mid.watches ws → IsTextOf text (k ∷ r) → Watching after.watches (left_by_creation r k ws)) → after.last ≡ at.zxid
     → ((es : List Place) (k : List ℕ) (r : Path) (x : Node) → Holds mid.places es → IsTextOf text (k ∷ r) → is_there es (k ∷ r) ≡ false → find es r ≡ Some x → x.numbers.creations < greatest_int → size_of c ≤ content_limit → length text ≤ text_limit
     → Holds after.places (add (k ∷ r) (record { content = c; numbers = fresh_numbers at e }) (change r (with_creation at.zxid) es)))
-    → Performs s (perform naming at s (create p n d q e)) after (Ok (results.Created made))
-create_makes naming at s p n m d c q e up h mid after text made o means t mo parent named f there short room copy spelled joins same last holds =
+    → Performs s (perform naming at s (create p n d q e)) after before sent (Ok (results.Created made))
+create_makes naming at s p n m d c q e up h mid after before sent text made o means t mo parent named f there short room copy spelled told joins same fired last holds =
+    let watched = fired s.watches p m (subst (λ (u : Watches). Watching u s.watches) (sym joins.watches) means.watches) t in
     let vacant = found_so s.nodes (m ∷ p) o false f (sym there) in
     let node : Node = record { content = d; numbers = fresh_numbers at e } in
     let put : Holds after.places (add (m ∷ p) node (change p (with_creation at.zxid) s.nodes)) =
     subst (λ (x : Option (List ℕ)). Holds after.places (add (m ∷ p) (record { content = x; numbers = fresh_numbers at e }) (change p (with_creation at.zxid) s.nodes))) copy
     (holds s.nodes m p up (subst (λ (u : Places). Holds u s.nodes) (sym joins.places) means.places) t vacant parent.there (low_so up.numbers.creations parent.room)
     (subst (λ (x : Option (List ℕ)). size_of x ≤ content_limit) (sym copy) (short_content d short)) room) in
-    created_so naming at s p n m d q e up after made parent named vacant (spelled ∙ t.spelled) means.watches
-    (made_means h mid after at s text p m up d e means mo t parent vacant joins same put last)
+    created_so naming at s p n m d q e up after before sent made parent named vacant (spelled ∙ t.spelled) told
+    (made_means h mid after at s text p m up d e means mo t parent vacant joins same put watched last)

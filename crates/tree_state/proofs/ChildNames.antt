@@ -1,7 +1,7 @@
 -- The names of a node's children after each change of the nodes.
 use Rattle.std.proofs.Common.{◌≡◌, ℕ, ◌+◌, Bool, true, false, cond, not, List, [], ◌∷◌, Some, None, length, refl, sym, ap, subst, ◌∙◌, arith, inl, inr}
-use Rattle.std.specs.Prelude.{◌⊎◌, ◌&&◌, ◌||◌, ◌==◌}
-use Rattle.std.specs.List.{IsDistinct, AllByRecursion, cons_option}
+use Rattle.std.specs.Prelude.{◌&&◌, ◌||◌, ◌==◌}
+use Rattle.std.specs.List.{cons_option}
 use Rattle.std.specs.Str.{bytes_eq}
 use Rattle.std.proofs.lemmas.Bool.{cases_Bool, eqb-true}
 use Rattle.std.proofs.lemmas.List.{nil_from_length, length-append}
@@ -36,20 +36,6 @@ same_path-flips p q =
       | inr k ↦ let e = same_path-sym p q k in cc
     ]
 
--- a name that the list has not is none of its names
-none_same : (n : List ℕ) (ms : List (List ℕ)) → has_name n ms ≡ false → AllByRecursion (λ m. bytes_eq n m ≡ false) ms
-none_same n [] h = tt
-none_same n (m ∷ ms) h = go (bytes_eq m n) refl h (none_same n ms)
-  where
-    go : (b : Bool) → bytes_eq m n ≡ b → (b || has_name n ms) ≡ false → (has_name n ms ≡ false → AllByRecursion (λ m. bytes_eq n m ≡ false) ms)
-        → (bytes_eq n m ≡ false) × AllByRecursion (λ m. bytes_eq n m ≡ false) ms
-    go true i k ih = absurd cc
-    go false i k ih = (flipped (cases_Bool (bytes_eq n m)), ih k)
-      where
-        flipped : (bytes_eq n m ≡ true) ⊎ (bytes_eq n m ≡ false) → bytes_eq n m ≡ false
-        flipped (inl t) = let e = (bytes_eq-Decides m n).1 (sym ((bytes_eq-Decides n m).0 t)) in absurd cc
-        flipped (inr t) = t
-
 -- the children of a path have a name where a node with it is under the path
 has_child : (n : List ℕ) (p : Path) (es : List Place) → has_name n (children p es) ≡ is_there es (n ∷ p)
 unfolding children is_there name_of_child name_under same_path
@@ -72,21 +58,6 @@ has_child n p (e ∷ es) = under e.path (has_child n p es)
 pub has_child_name : (n : List ℕ) (p : Path) (es : List Place) → has_name n (child_names p es) ≡ is_there es (n ∷ p)
 unfolding child_names
 has_child_name n p es = sym (has_name-Shuffles n _ _ (Shuffles-in_order (children p es))) ∙ has_child n p es
-
--- no name stands twice among the children of nodes that are apart
-pub distinct_children : (p : Path) (es : List Place) → IsApart es → IsDistinct bytes_eq (children p es)
-unfolding children name_of_child name_under IsApart IsDistinct
-distinct_children p [] apart = tt
-distinct_children p (e ∷ es) apart = under e.path apart.0 (distinct_children p es apart.1)
-  where
-    by_test : (b : Bool) (m : List ℕ) → (b ≡ true → has_name m (children p es) ≡ false) → IsDistinct bytes_eq (children p es)
-        → IsDistinct bytes_eq (cons_option (cond b (Some m) None) (children p es))
-    by_test true m absent h = (none_same m (children p es) (absent refl), h)
-    by_test false m absent h = h
-
-    under : (q : Path) → is_there es q ≡ false → IsDistinct bytes_eq (children p es) → IsDistinct bytes_eq (cons_option (name_under p q) (children p es))
-    under [] absent h = h
-    under (m ∷ q) absent h = by_test (same_path p q) m (λ k. has_child m p es ∙ ap (λ (r : Path). is_there es (m ∷ r)) (same_path-true p q k) ∙ absent) h
 
 -- ---- after each change
 

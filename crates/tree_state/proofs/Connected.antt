@@ -13,11 +13,13 @@ use Rattle.tree_state.specs.declared.message.Output.{Output}
 use Rattle.tree_state.specs.declared.session.Given.{Given}
 use Rattle.tree_state.specs.declared.session.Session as code
 use Rattle.tree_state.specs.declared.session.Sessions.{Sessions}
+use Rattle.tree_state.specs.declared.watches.Watches.{Watches}
 use Rattle.tree_state.specs.Nodes.{Path, ephemerals}
-use Rattle.tree_state.specs.State.{State, Session, Watch, session_at, session_of, changed_session, change_session, has_connection, moved_to, left_of_others, without_connection, is_numbered, next_zxid}
+use Rattle.tree_state.specs.State.{State, Session, session_at, session_of, changed_session, change_session, has_connection, moved_to, left_of_others, without_connection, is_numbered, next_zxid}
 use Rattle.tree_state.specs.Changes.{Naming}
 use Rattle.tree_state.specs.Step.{connects, loses, step, connected, connected_at, with_session, with_moved, answer_connect, read_only_of, given_to, given_live, is_password_of, clamped, no_session, lost}
 use Rattle.tree_state.specs.Sessions.{Keeps, Owning, AreBelow, session_at_key}
+use Rattle.tree_state.specs.Watches.{Watching}
 use Rattle.tree_state.specs.Trees.{Means, Does, Stays, CanConnect, AreOwned, IsGiven}
 use Rattle.tree_state.proofs.SessionLists.{number_of}
 use Rattle.tree_state.proofs.SessionMaps.{is_key, at_key}
@@ -119,7 +121,7 @@ connects_so naming s c asked g now after outputs sent means = record { sent = se
 
 -- what is held, with other sessions and another last zxid
 abbrev pub with_sessions : Held → Sessions → ℤ → Held
-with_sessions held sessions last = record { places = held.places; sessions = sessions; last = last }
+with_sessions held sessions last = record { places = held.places; sessions = sessions; watches = held.watches; last = last }
 
 same_owners : (s : State) (xs : List Session) (greatest last : ℤ) → s.greatest ≤ℤ greatest → AreOwned s → AreOwned (record s { sessions = xs; greatest = greatest; last = last })
 same_owners s xs greatest last more h = record {
@@ -286,21 +288,18 @@ lost_number c x = go (has_connection c x)
     go true = refl
     go false = refl
 
-none_left : (c : ℕ) (ws : List Watch) → ws ≡ [] → left_of_others c ws ≡ []
-unfolding left_of_others
-none_left c ws h = ap (left_of_others c) h
-
-pub lose_done : (naming : Naming) (s : State) (c : ℕ) (before : Held) (sessions : Sessions) → Means before s
-    → Keeps sessions (map (without_connection c) s.sessions) (λ session. ephemerals session s.nodes) → Does naming s (loses c) (with_sessions before sessions before.last) []
+pub lose_done : (naming : Naming) (s : State) (c : ℕ) (before : Held) (sessions : Sessions) (watches : Watches) → Means before s
+    → Keeps sessions (map (without_connection c) s.sessions) (λ session. ephemerals session s.nodes) → Watching watches (left_of_others c s.watches)
+    → Does naming s (loses c) (record { places = before.places; sessions = sessions; watches = watches; last = before.last }) []
 unfolding step lost
-lose_done naming s c before sessions means keeps = record {
+lose_done naming s c before sessions watches means keeps watching = record {
   sent = refl;
   means = record {
     places = means.places;
     sessions = keeps;
     owners = record { given = means.owners.given; childless = means.owners.childless; free = means.owners.free };
     numbers = given_each s (lost c s) (without_connection c) s.sessions refl (lost_number c) means.numbers;
-    watches = none_left c s.watches means.watches;
+    watches = watching;
     last = means.last;
   };
 }

@@ -21,13 +21,6 @@ there_found p (e ∷ es) = go (same_path e.path p) (there_found p es)
 pub found_there : (p : Path) (es : List Place) (n : Node) → find es p ≡ Some n → is_there es p ≡ true
 found_there p es n h = there_found p es ∙ ap is_some h
 
-pub absent_found : (p : Path) (es : List Place) → is_there es p ≡ false → find es p ≡ None
-absent_found p es h = go (find es p) (sym (there_found p es) ∙ h)
-  where
-    go : (o : Option Node) → is_some o ≡ false → o ≡ None
-    go None k = refl
-    go (Some n) k = absurd cc
-
 pub there_node : (p : Path) (es : List Place) → is_there es p ≡ true → (n : Node) × (find es p ≡ Some n)
 there_node p es h = go (find es p) (sym (there_found p es) ∙ h)
   where

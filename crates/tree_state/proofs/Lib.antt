@@ -16,7 +16,7 @@ pub mod Kept
 pub mod Root
 pub mod Copied
 pub mod Rows
-pub mod Reading
+pub mod Readings
 pub mod Owned
 pub mod Changed
 pub mod Alone
@@ -36,3 +36,21 @@ pub mod Creating
 pub mod Answering
 pub mod Shorts
 pub mod Applied
+pub mod CopiedMaps
+pub mod CopiedPlaces
+mod CopiedSessions
+mod Toldness
+mod WatchSets
+mod WatchMaps
+pub mod Telling
+pub mod Aspects
+pub mod AllWatches
+mod GoneEvents
+mod OneChange
+pub mod Folding
+mod FailedCodes
+mod AllOrNone
+pub mod ReadRows
+mod Unwatching
+mod Notices
+mod WatchesSet

@@ -1,12 +1,10 @@
 -- What is read off the nodes does not depend on their order.
-use Rattle.std.proofs.Common.{◌≡◌, suc, Bool, true, false, cond, List, [], ◌∷◌, ◌++◌, Option, Some, None, length, map, filter, refl, sym, ap, subst, ◌∙◌, inl, inr}
-use Rattle.std.specs.List.{filter_map, cons_option}
+use Rattle.std.proofs.Common.{◌≡◌, suc, Bool, true, false, cond, List, [], ◌∷◌, ◌++◌, Option, Some, length, map, filter, refl, sym, ap, subst, ◌∙◌, inl, inr}
 use Rattle.std.proofs.lemmas.Bool.{cases_Bool}
-use Rattle.tree_state.specs.Nodes.{Path, Node, Place, same_path, find, is_there, changed_at, change, is_elsewhere, remove, name_of_child, children, child_names}
+use Rattle.tree_state.specs.Nodes.{Path, Node, Place, same_path, find, is_there, changed_at, change, is_elsewhere, remove}
 use Rattle.tree_state.specs.Places.{IsApart}
 pub use Rattle.tree_state.specs.Shuffles.{Shuffles, nothing, kept, swapped, joined}
 pub use Rattle.tree_state.proofs.ByteOrder.{same_order}
-use Rattle.tree_state.proofs.ByteOrder.{in_order-Shuffles}
 use Rattle.tree_state.proofs.SamePaths.{same_path-true, same_path-sym}
 
 -- ---- lists in another order
@@ -28,21 +26,6 @@ length-Shuffles xs ys nothing = refl
 length-Shuffles xs ys (kept x us vs h) = ap suc (length-Shuffles us vs h)
 length-Shuffles xs ys (swapped x y us) = refl
 length-Shuffles xs ys (joined us vs ws h k) = length-Shuffles us vs h ∙ length-Shuffles vs ws k
-
-some_more : {B : Type 0} (a : Option B) (us vs : List B) → Shuffles us vs → Shuffles (cons_option a us) (cons_option a vs)
-some_more None us vs h = h
-some_more (Some x) us vs h = kept x us vs h
-
-some_swapped : {B : Type 0} (a b : Option B) (us : List B) → Shuffles (cons_option a (cons_option b us)) (cons_option b (cons_option a us))
-some_swapped None b us = same_order _
-some_swapped (Some x) None us = same_order _
-some_swapped (Some x) (Some y) us = swapped x y us
-
-pub filter_map-Shuffles : {A B : Type 0} (f : A → Option B) (xs ys : List A) → Shuffles xs ys → Shuffles (filter_map f xs) (filter_map f ys)
-filter_map-Shuffles f xs ys nothing = nothing
-filter_map-Shuffles f xs ys (kept x us vs h) = some_more (f x) _ _ (filter_map-Shuffles f us vs h)
-filter_map-Shuffles f xs ys (swapped x y us) = some_swapped (f x) (f y) (filter_map f us)
-filter_map-Shuffles f xs ys (joined us vs ws h k) = joined _ _ _ (filter_map-Shuffles f us vs h) (filter_map-Shuffles f vs ws k)
 
 one_more : {A : Type 0} (b : Bool) (x : A) (us vs : List A) → Shuffles us vs → Shuffles (cond b (x ∷ us) us) (cond b (x ∷ vs) vs)
 one_more true x us vs h = kept x us vs h
@@ -139,11 +122,3 @@ change-Shuffles p f xs ys h = map-Shuffles (changed_at p f) xs ys h
 pub remove-Shuffles : (p : Path) (xs ys : List Place) → Shuffles xs ys → Shuffles (remove p xs) (remove p ys)
 unfolding remove
 remove-Shuffles p xs ys h = filter-Shuffles (is_elsewhere p) xs ys h
-
-pub children-Shuffles : (p : Path) (xs ys : List Place) → Shuffles xs ys → Shuffles (children p xs) (children p ys)
-unfolding children
-children-Shuffles p xs ys h = filter_map-Shuffles (name_of_child p) xs ys h
-
-pub child_names-Shuffles : (p : Path) (xs ys : List Place) → Shuffles xs ys → child_names p xs ≡ child_names p ys
-unfolding child_names
-child_names-Shuffles p xs ys h = in_order-Shuffles _ _ (children-Shuffles p xs ys h)

@@ -1,16 +1,20 @@
--- The map of the root alone.
-use Rattle.std.proofs.Common.{◌≡◌, ◌≤◌, ℕ, zero-le, length, true, List, [], ◌∷◌, Some, None, String, Global, string_bytes, string_cmp, codes, map, refl, sym, ap, subst, ◌∙◌, arith}
-use Rattle.std.specs.Prelude.{All}
+-- The map of the root alone, and what is held at the start.
+use Rattle.std.proofs.Common.{◌≡◌, ◌≤◌, ℕ, ℤ, zero-le, length, true, List, [], ◌∷◌, Some, None, String, Global, string_bytes, string_cmp, codes, map, refl, sym, ap, subst, ◌∙◌, arith}
+use Rattle.std.specs.Prelude.{All, pos, ◌≤ℤ◌}
 use Rattle.std.specs.BTreeMap.{insert_entry}
 use Rattle.std.proofs.lemmas.List.Elements.{All-nil, All-cons}
 use Rattle.zk_path.specs.Paths.{IsComponent, text_of}
+use Rattle.tree_state.specs.declared.held.Held.{Held}
 use Rattle.tree_state.specs.declared.node.Node as code
 use Rattle.tree_state.specs.declared.places.Places.{Places}
 use Rattle.tree_state.specs.Commands.{IsTextOf}
-use Rattle.tree_state.specs.Nodes.{Path, Node, Place, same_path, find, is_there, name_under, name_of_child, children, child_names, in_order, size_of, greatest_int}
+use Rattle.tree_state.specs.Nodes.{Path, Node, Place, same_path, find, is_there, name_under, name_of_child, children, has_children, child_names, in_order, ephemerals, size_of, greatest_int}
 use Rattle.tree_state.specs.State.{start_at, first_numbers}
 use Rattle.tree_state.specs.Shuffles.{Shuffles}
 use Rattle.tree_state.specs.Places.{path_of, Entry, node_of, place_of, HasText, HasNames, IsApart, IsRooted, IsSteady, Holds, IsRoot, text_limit}
+use Rattle.tree_state.specs.Sessions.{Owning, Keeps}
+use Rattle.tree_state.specs.Trees.{AreOwned, IsGiven, Means}
+use Rattle.tree_state.specs.Watches.{Watching}
 use Rattle.tree_state.proofs.Reorder.{same_order}
 use Rattle.tree_state.proofs.PathTexts.{path_of-IsTextOf, IsTextOf-path_of}
 
@@ -74,3 +78,31 @@ root_holds t old k v creations text root low empty put =
       steady = root_steady creations low;
       short = root_short creations;
     }
+
+-- ---- the start
+
+root_free : (creations : ℕ) (p : Path) (n : Node) → find (start_at creations).nodes p ≡ Some n → n.numbers.owner ≡ pos 0
+unfolding start_at first_numbers find same_path
+root_free creations [] n h =
+    let same : record { content = None; numbers = first_numbers creations } ≡ n = cc in
+    subst (λ (x : Node). x.numbers.owner ≡ pos 0) same refl
+root_free creations (m ∷ p) n h = absurd cc
+
+alone_owned : (creations : ℕ) → AreOwned (start_at creations)
+unfolding start_at has_children children name_of_child name_under
+alone_owned creations = record {
+  given = λ p n at_p. subst (λ (z : ℤ). z ≤ℤ pos 0) (sym (root_free creations p n at_p)) (record { le = tt });
+  childless = λ p n at_p owned. refl;
+  free = λ n at_root. root_free creations [] n at_root;
+}
+
+pub start_means : (h : Held) (creations : ℕ) → Holds h.places (start_at creations).nodes → ((owned : Owning) → Keeps h.sessions [] owned) → Watching h.watches [] → h.last ≡ pos 0 → Means h (start_at creations)
+unfolding start_at
+start_means h creations holds keeps watches last = record {
+  places = holds;
+  sessions = keeps (λ k. ephemerals k (start_at creations).nodes);
+  owners = alone_owned creations;
+  numbers = All-nil (IsGiven (start_at creations));
+  watches = watches;
+  last = last;
+}

@@ -1,13 +1,13 @@
 -- Each end of each row of the machine, from what the checks find.
 use Rattle.std.proofs.Common.{◌≡◌, ℕ, ℤ, Bool, true, false, List, [], ◌∷◌, Option, Some, None, ap, ◌∙◌}
-use Rattle.zk_messages.specs.Refuses.{open_acl}
+use Rattle.zk_messages.specs.declared.reply.OpResult.TheVariants as results
 use Rattle.zk_messages.specs.declared.reply.Outcome.TheVariants as outcomes
 use Rattle.tree_state.specs.declared.node.Moment.{Moment}
 use Rattle.tree_state.specs.Nodes.{Path, Node, find, is_there, change, has_children, stat_of}
-use Rattle.tree_state.specs.State.{State, on_data, watching_if}
-use Rattle.tree_state.specs.Commands.{create, delete, set_content, set_acl, stat_at, get_content, get_acl, get_children}
+use Rattle.tree_state.specs.State.{State}
+use Rattle.tree_state.specs.Commands.{create, delete, set_content, check, set_acl}
 use Rattle.tree_state.specs.Changes.{Trial, failed, done, need, refuse, Naming, perform, has_owner, is_at_last, is_other_version, name_for, created, deleted, updated, fresh_numbers, with_acl, no_node, bad_version, not_empty, node_exists, no_children_for_ephemerals, system_error, bad_arguments}
-use Rattle.tree_state.specs.Step.{answer, or_error, with_error, told_only, with_watch, names_with}
+use Rattle.tree_state.specs.Step.{answer, or_error, with_error, told_only}
 use Rattle.tree_state.specs.Trees.{IsParent}
 
 -- ---- the checks
@@ -100,6 +100,21 @@ pub set_content_done : (naming : Naming) (at : Moment) (s : State) (p : Path) (d
 unfolding perform
 set_content_done naming at s p d v n h o l = needed _ _ _ _ h ∙ passed _ _ _ o ∙ passed _ _ _ l
 
+-- ---- check
+
+pub check_missing : (naming : Naming) (at : Moment) (s : State) (p : Path) (v : ℤ) → find s.nodes p ≡ None → perform naming at s (check p v) ≡ failed no_node
+unfolding perform
+check_missing naming at s p v h = lacking _ _ _ h
+
+pub check_other : (naming : Naming) (at : Moment) (s : State) (p : Path) (v : ℤ) (n : Node) → find s.nodes p ≡ Some n → is_other_version v n.numbers.version ≡ true → perform naming at s (check p v) ≡ failed bad_version
+unfolding perform
+check_other naming at s p v n h o = needed _ _ _ _ h ∙ refused_so _ _ _ o
+
+pub check_done : (naming : Naming) (at : Moment) (s : State) (p : Path) (v : ℤ) (n : Node) → find s.nodes p ≡ Some n → is_other_version v n.numbers.version ≡ false
+    → perform naming at s (check p v) ≡ done (record { state = record s { last = at.zxid }; result = results.Checked; events = [] })
+unfolding perform
+check_done naming at s p v n h o = needed _ _ _ _ h ∙ passed _ _ _ o
+
 -- ---- setACL
 
 pub set_acl_missing : (naming : Naming) (at : Moment) (c : ℕ) (s : State) (p : Path) (v : ℤ) → find s.nodes p ≡ None → answer naming at c s (set_acl p v) ≡ with_error s no_node
@@ -119,40 +134,3 @@ pub set_acl_done : (naming : Naming) (at : Moment) (c : ℕ) (s : State) (p : Pa
     → answer naming at c s (set_acl p v) ≡ told_only (record s { nodes = change p with_acl s.nodes; last = at.zxid }) (outcomes.Stat (stat_of s.nodes p (with_acl n)))
 unfolding answer or_error
 set_acl_done naming at c s p v n h o l = ap (or_error s) (needed _ _ _ _ h ∙ passed _ _ _ o ∙ passed _ _ _ l)
-
--- ---- what is read
-
-pub stat_missing : (naming : Naming) (at : Moment) (c : ℕ) (s : State) (p : Path) → find s.nodes p ≡ None → answer naming at c s (stat_at p false) ≡ with_error s no_node
-unfolding answer or_error with_watch watching_if with_error told_only
-stat_missing naming at c s p h = ap (or_error (with_watch false on_data p c s)) (lacking _ _ _ h)
-
-pub stat_found : (naming : Naming) (at : Moment) (c : ℕ) (s : State) (p : Path) (n : Node) → find s.nodes p ≡ Some n → answer naming at c s (stat_at p false) ≡ told_only s (outcomes.Stat (stat_of s.nodes p n))
-unfolding answer or_error with_watch watching_if with_error told_only
-stat_found naming at c s p n h = ap (or_error (with_watch false on_data p c s)) (needed _ _ _ _ h)
-
-pub content_missing : (naming : Naming) (at : Moment) (c : ℕ) (s : State) (p : Path) → find s.nodes p ≡ None → answer naming at c s (get_content p false) ≡ with_error s no_node
-unfolding answer or_error
-content_missing naming at c s p h = ap (or_error s) (lacking _ _ _ h)
-
-pub content_found : (naming : Naming) (at : Moment) (c : ℕ) (s : State) (p : Path) (n : Node) → find s.nodes p ≡ Some n
-    → answer naming at c s (get_content p false) ≡ told_only s (outcomes.Content n.content (stat_of s.nodes p n))
-unfolding answer or_error with_watch watching_if
-content_found naming at c s p n h = ap (or_error s) (needed _ _ _ _ h)
-
-pub acl_missing : (naming : Naming) (at : Moment) (c : ℕ) (s : State) (p : Path) → find s.nodes p ≡ None → answer naming at c s (get_acl p) ≡ with_error s no_node
-unfolding answer or_error
-acl_missing naming at c s p h = ap (or_error s) (lacking _ _ _ h)
-
-pub acl_found : (naming : Naming) (at : Moment) (c : ℕ) (s : State) (p : Path) (n : Node) → find s.nodes p ≡ Some n
-    → answer naming at c s (get_acl p) ≡ told_only s (outcomes.Acls (Some (open_acl ∷ [])) (stat_of s.nodes p n))
-unfolding answer or_error
-acl_found naming at c s p n h = ap (or_error s) (needed _ _ _ _ h)
-
-pub children_missing : (naming : Naming) (at : Moment) (c : ℕ) (s : State) (p : Path) (b : Bool) → find s.nodes p ≡ None → answer naming at c s (get_children p false b) ≡ with_error s no_node
-unfolding answer or_error
-children_missing naming at c s p b h = ap (or_error s) (lacking _ _ _ h)
-
-pub children_found : (naming : Naming) (at : Moment) (c : ℕ) (s : State) (p : Path) (b : Bool) (n : Node) → find s.nodes p ≡ Some n
-    → answer naming at c s (get_children p false b) ≡ told_only s (names_with b s.nodes p n)
-unfolding answer or_error with_watch watching_if
-children_found naming at c s p b n h = ap (or_error s) (needed _ _ _ _ h)

@@ -1,6 +1,6 @@
 -- The command of a request is the one of its row, and is answered as the row is.
-use Rattle.std.proofs.Common.{◌≡◌, ℕ, ℤ, Bool, true, false, List, [], ◌∷◌, Option, Some, None, Result, Ok, Err, refl, sym, ap, subst, ◌∙◌, inl, inr}
-use Rattle.std.specs.Prelude.{IfOk}
+use Rattle.std.proofs.Common.{◌≡◌, ℕ, ℤ, Bool, true, false, List, [], ◌∷◌, ◌++◌, Option, Some, None, Result, Ok, Err, refl, sym, ap, subst, ◌∙◌, inl, inr}
+use Rattle.std.specs.Prelude.{IfOk, IsErrAnd}
 use Rattle.zk_path.specs.Paths.{text_of}
 use Rattle.jute_core.specs.declared.held.Bytes.{Bytes}
 use Rattle.zk_records.specs.declared.create.CreateRequest.{CreateRequest}
@@ -20,13 +20,12 @@ use Rattle.jute_core.specs.declared.held.Memory.{Memory}
 use Rattle.tree_state.specs.declared.held.Held.{Held}
 use Rattle.tree_state.specs.declared.node.Moment.{Moment}
 use Rattle.tree_state.specs.Nodes.{Path, ephemerals}
-use Rattle.tree_state.specs.State.{State, Watch, left_of_others, session_at, without_session}
-use Rattle.tree_state.specs.Commands.{Command, Asks, IsTextOf, single, set_acl, stat_at, get_content, get_acl, get_children, sync, ping, close, delete, set_content}
-use Rattle.tree_state.specs.Changes.{Naming, Effects, perform, all_deleted}
-use Rattle.tree_state.specs.Step.{answer, answer_single, told_only, closed, ended, watches_gone, connection_at}
-use Rattle.tree_state.specs.Trees.{Means, Answers, Tells, IsServed, IsOther}
-use Rattle.tree_state.proofs.Alone.{told_answers}
-use Rattle.tree_state.proofs.Ended.{all_deleted_is}
+use Rattle.tree_state.specs.State.{State, Session, Watch, left_of_others, session_at, without_session}
+use Rattle.tree_state.specs.Commands.{Command, Asks, IsTextOf, AreTextsOf, single, set_acl, stat_at, get_content, get_acl, get_children, sync, ping, set_watches, close, delete, set_content}
+use Rattle.tree_state.specs.Changes.{Naming, perform, deleted, no_effects, all_deleted}
+use Rattle.tree_state.specs.Step.{Answer, answer, answer_single, told_only, closed, ended, watches_gone, connection_at}
+use Rattle.tree_state.specs.Trees.{Means, Answers, HasRoom, Tells, IsOther}
+use Rattle.tree_state.proofs.Alone.{Sent, untold, told_answers}
 
 -- ---- the command of each request
 
@@ -91,69 +90,103 @@ unfolding Asks
 asks_close close h = refl
 asks_close command h = absurd h
 
+pub record IsWatches (r : SetWatches) (command : Command) : Type 0 where
+  pub contents : List Path
+  pub exist : List Path
+  pub childs : List Path
+  pub content_texts : AreTextsOf r.content_paths contents
+  pub exist_texts : AreTextsOf r.exist_paths exist
+  pub child_texts : AreTextsOf r.child_paths childs
+  pub is : command ≡ set_watches r.seen contents exist childs
+
+asks_watches : (r : SetWatches) (command : Command) → Asks (requests.SetWatches r) command → IsWatches r command
+unfolding Asks
+asks_watches r (set_watches seen a b d) h = record {
+  contents = a;
+  exist = b;
+  childs = d;
+  content_texts = h.1;
+  exist_texts = h.2;
+  child_texts = h.3;
+  is = ap (λ (z : ℤ). set_watches z a b d) (sym h.0);
+}
+asks_watches r command h = absurd h
+
 -- ---- each request by its row
 
--- what is told of a path by a call that may lack memory
-pub told_row : (row : Path → Command) (text : List ℕ) (naming : Naming) (at : Moment) (c : ℕ) (s : State) (h : Held) (p : Path) (result : Result Outcome Memory) → Means h s → IsTextOf text p
-    → IfOk result (λ o. (naming' : Naming) (at' : Moment) (c' : ℕ) (s' : State) (p' : Path) → Means h s' → IsTextOf text p' → Tells s' (answer naming' at' c' s' (row p')) o)
-    → Answers s (answer naming at c s (row p)) h result
+-- a command is answered so
+abbrev pub Row : Naming → Moment → ℕ → State → Held → Sent → Sent → Result Outcome Memory → Command → Type 0
+Row naming at c s h before sent result command = Answers s (answer naming at c s command) h before sent result
+
+-- without memory all is as it was
+pub out_of_memory : (s : State) (a : Answer) (h after : Held) (before sent : Sent) (result : Result Outcome Memory) (P : Memory → Type 0) → Means h s → after ≡ h → IsErrAnd result P → Answers s a after before sent result
 unfolding Answers
-told_row row text naming at c s h p (Ok o) m t f = told_answers s _ h o m (f naming at c s p m t)
-told_row row text naming at c s h p (Err e) m t f = m
+out_of_memory s a h after before sent (Ok outcome) P m same e = absurd e
+out_of_memory s a h after before sent (Err e) P m same i = subst (λ (x : Held). Means x s) (sym same) m
 
--- a request that could ask for a watch, and does not
-served : (naming : Naming) (at : Moment) (c : ℕ) (s : State) (h : Held) (r : PathWatch) (row : Path → Bool → Command) (command : Command) (result : Result Outcome Memory) → IsWatchOf r row command → r.watch ≡ false
-    → ((p : Path) → IsTextOf r.path p → Answers s (answer naming at c s (row p false)) h result) → Answers s (answer naming at c s command) h result
-served naming at c s h r row command result a w t = subst (λ (x : Command). Answers s (answer naming at c s x) h result) (sym (a.is ∙ ap (row a.path) w)) (t a.path a.text)
+-- what is told of a path by a call that may lack memory
+pub told_row : (row : Path → Command) (text : List ℕ) (naming : Naming) (at : Moment) (c : ℕ) (s : State) (h : Held) (before : Sent) (p : Path) (result : Result Outcome Memory) → Means h s → HasRoom before → IsTextOf text p
+    → IfOk result (λ o. (naming' : Naming) (at' : Moment) (c' : ℕ) (s' : State) (p' : Path) → Means h s' → IsTextOf text p' → Tells s' (answer naming' at' c' s' (row p')) o)
+    → Row naming at c s h before before result (row p)
+unfolding Answers
+told_row row text naming at c s h before p (Ok o) m room t f = told_answers s _ h before o m room (f naming at c s p m t)
+told_row row text naming at c s h before p (Err e) m room t f = m
 
-pub serve_stat : (naming : Naming) (at : Moment) (c : ℕ) (s : State) (h : Held) (r : PathWatch) (command : Command) (result : Result Outcome Memory) → Asks (requests.Exists r) command → IsServed (requests.Exists r)
-    → ((p : Path) → IsTextOf r.path p → Answers s (answer naming at c s (stat_at p false)) h result) → Answers s (answer naming at c s command) h result
-unfolding IsServed
-serve_stat naming at c s h r command result a w t = served naming at c s h r stat_at command result (asks_stat r command a) w t
+-- a request that may ask for a watch
+served : (naming : Naming) (at : Moment) (c : ℕ) (s : State) (h : Held) (before sent : Sent) (r : PathWatch) (row : Path → Bool → Command) (command : Command) (result : Result Outcome Memory) → IsWatchOf r row command
+    → ((p : Path) → IsTextOf r.path p → Row naming at c s h before sent result (row p r.watch)) → Row naming at c s h before sent result command
+served naming at c s h before sent r row command result a t = subst (Row naming at c s h before sent result) (sym a.is) (t a.path a.text)
 
-pub serve_content : (naming : Naming) (at : Moment) (c : ℕ) (s : State) (h : Held) (r : PathWatch) (command : Command) (result : Result Outcome Memory) → Asks (requests.GetContent r) command → IsServed (requests.GetContent r)
-    → ((p : Path) → IsTextOf r.path p → Answers s (answer naming at c s (get_content p false)) h result) → Answers s (answer naming at c s command) h result
-unfolding IsServed
-serve_content naming at c s h r command result a w t = served naming at c s h r get_content command result (asks_content r command a) w t
+pub serve_stat : (naming : Naming) (at : Moment) (c : ℕ) (s : State) (h : Held) (before sent : Sent) (r : PathWatch) (command : Command) (result : Result Outcome Memory) → Asks (requests.Exists r) command
+    → ((p : Path) → IsTextOf r.path p → Row naming at c s h before sent result (stat_at p r.watch)) → Row naming at c s h before sent result command
+serve_stat naming at c s h before sent r command result a t = served naming at c s h before sent r stat_at command result (asks_stat r command a) t
 
-pub serve_names : (naming : Naming) (at : Moment) (c : ℕ) (s : State) (h : Held) (r : PathWatch) (command : Command) (result : Result Outcome Memory) → Asks (requests.GetChildren r) command → IsServed (requests.GetChildren r)
-    → ((p : Path) → IsTextOf r.path p → Answers s (answer naming at c s (get_children p false false)) h result) → Answers s (answer naming at c s command) h result
-unfolding IsServed
-serve_names naming at c s h r command result a w t = served naming at c s h r (λ p b. get_children p b false) command result (asks_names r command a) w t
+pub serve_content : (naming : Naming) (at : Moment) (c : ℕ) (s : State) (h : Held) (before sent : Sent) (r : PathWatch) (command : Command) (result : Result Outcome Memory) → Asks (requests.GetContent r) command
+    → ((p : Path) → IsTextOf r.path p → Row naming at c s h before sent result (get_content p r.watch)) → Row naming at c s h before sent result command
+serve_content naming at c s h before sent r command result a t = served naming at c s h before sent r get_content command result (asks_content r command a) t
 
-pub serve_names_stat : (naming : Naming) (at : Moment) (c : ℕ) (s : State) (h : Held) (r : PathWatch) (command : Command) (result : Result Outcome Memory) → Asks (requests.GetChildren2 r) command → IsServed (requests.GetChildren2 r)
-    → ((p : Path) → IsTextOf r.path p → Answers s (answer naming at c s (get_children p false true)) h result) → Answers s (answer naming at c s command) h result
-unfolding IsServed
-serve_names_stat naming at c s h r command result a w t = served naming at c s h r (λ p b. get_children p b true) command result (asks_names_stat r command a) w t
+pub serve_names : (naming : Naming) (at : Moment) (c : ℕ) (s : State) (h : Held) (before sent : Sent) (r : PathWatch) (command : Command) (result : Result Outcome Memory) → Asks (requests.GetChildren r) command
+    → ((p : Path) → IsTextOf r.path p → Row naming at c s h before sent result (get_children p r.watch false)) → Row naming at c s h before sent result command
+serve_names naming at c s h before sent r command result a t = served naming at c s h before sent r (λ p b. get_children p b false) command result (asks_names r command a) t
 
-pub serve_acl : (naming : Naming) (at : Moment) (c : ℕ) (s : State) (h : Held) (r : PathOnly) (command : Command) (result : Result Outcome Memory) → Asks (requests.GetAcl r) command
-    → ((p : Path) → IsTextOf r.path p → Answers s (answer naming at c s (get_acl p)) h result) → Answers s (answer naming at c s command) h result
-serve_acl naming at c s h r command result a t =
+pub serve_names_stat : (naming : Naming) (at : Moment) (c : ℕ) (s : State) (h : Held) (before sent : Sent) (r : PathWatch) (command : Command) (result : Result Outcome Memory) → Asks (requests.GetChildren2 r) command
+    → ((p : Path) → IsTextOf r.path p → Row naming at c s h before sent result (get_children p r.watch true)) → Row naming at c s h before sent result command
+serve_names_stat naming at c s h before sent r command result a t = served naming at c s h before sent r (λ p b. get_children p b true) command result (asks_names_stat r command a) t
+
+pub serve_acl : (naming : Naming) (at : Moment) (c : ℕ) (s : State) (h : Held) (before sent : Sent) (r : PathOnly) (command : Command) (result : Result Outcome Memory) → Asks (requests.GetAcl r) command
+    → ((p : Path) → IsTextOf r.path p → Row naming at c s h before sent result (get_acl p)) → Row naming at c s h before sent result command
+serve_acl naming at c s h before sent r command result a t =
     let k = asks_acl r command a in
-    subst (λ (x : Command). Answers s (answer naming at c s x) h result) (sym k.2) (t k.0 k.1)
+    subst (Row naming at c s h before sent result) (sym k.2) (t k.0 k.1)
 
-pub serve_sync : (naming : Naming) (at : Moment) (c : ℕ) (s : State) (h : Held) (r : PathOnly) (command : Command) (result : Result Outcome Memory) → Asks (requests.Sync r) command
-    → ((p : Path) → IsTextOf r.path p → Answers s (answer naming at c s (sync p)) h result) → Answers s (answer naming at c s command) h result
-serve_sync naming at c s h r command result a t =
+pub serve_sync : (naming : Naming) (at : Moment) (c : ℕ) (s : State) (h : Held) (before sent : Sent) (r : PathOnly) (command : Command) (result : Result Outcome Memory) → Asks (requests.Sync r) command
+    → ((p : Path) → IsTextOf r.path p → Row naming at c s h before sent result (sync p)) → Row naming at c s h before sent result command
+serve_sync naming at c s h before sent r command result a t =
     let k = asks_sync r command a in
-    subst (λ (x : Command). Answers s (answer naming at c s x) h result) (sym k.2) (t k.0 k.1)
+    subst (Row naming at c s h before sent result) (sym k.2) (t k.0 k.1)
 
-pub serve_ping : (naming : Naming) (at : Moment) (c : ℕ) (s : State) (h : Held) (command : Command) → Means h s → Asks requests.Ping command → Answers s (answer naming at c s command) h (Ok outcomes.Empty)
-unfolding answer Answers told_only
-serve_ping naming at c s h command m a = subst (λ (x : Command). Answers s (answer naming at c s x) h (Ok outcomes.Empty)) (sym (asks_ping command a)) (refl, refl, m)
-
-pub serve_set_acl : (naming : Naming) (at : Moment) (c : ℕ) (s : State) (h : Held) (r : SetAclRequest) (command : Command) (result : Result Outcome Memory) → Asks (requests.SetAcl r) command
-    → ((p : Path) → IsTextOf r.path p → Answers s (answer naming at c s (set_acl p r.version)) h result) → Answers s (answer naming at c s command) h result
-serve_set_acl naming at c s h r command result a t =
+pub serve_set_acl : (naming : Naming) (at : Moment) (c : ℕ) (s : State) (h : Held) (before sent : Sent) (r : SetAclRequest) (command : Command) (result : Result Outcome Memory) → Asks (requests.SetAcl r) command
+    → ((p : Path) → IsTextOf r.path p → Row naming at c s h before sent result (set_acl p r.version)) → Row naming at c s h before sent result command
+serve_set_acl naming at c s h before sent r command result a t =
     let k = asks_set_acl r command a in
-    subst (λ (x : Command). Answers s (answer naming at c s x) h result) (sym k.2) (t k.0 k.1)
+    subst (Row naming at c s h before sent result) (sym k.2) (t k.0 k.1)
 
-pub serve_set_content : (naming : Naming) (at : Moment) (c : ℕ) (s : State) (h : Held) (r : SetContentRequest) (command : Command) (result : Result Outcome Memory) → Asks (requests.SetContent r) command
-    → ((p : Path) → IsTextOf r.path p → Answers s (answer_single s (perform naming at s (set_content p r.content r.version))) h result) → Answers s (answer naming at c s command) h result
+pub serve_ping : (naming : Naming) (at : Moment) (c : ℕ) (s : State) (h : Held) (before : Sent) (command : Command) → Means h s → HasRoom before → Asks requests.Ping command → Row naming at c s h before before (Ok outcomes.Empty) command
+unfolding answer Answers told_only
+serve_ping naming at c s h before command m room a = subst (Row naming at c s h before before (Ok outcomes.Empty)) (sym (asks_ping command a)) (refl, untold before before [] room refl refl, m)
+
+pub serve_set_content : (naming : Naming) (at : Moment) (c : ℕ) (s : State) (h : Held) (before sent : Sent) (r : SetContentRequest) (command : Command) (result : Result Outcome Memory) → Asks (requests.SetContent r) command
+    → ((p : Path) → IsTextOf r.path p → Answers s (answer_single s (perform naming at s (set_content p r.content r.version))) h before sent result) → Row naming at c s h before sent result command
 unfolding answer
-serve_set_content naming at c s h r command result a t =
+serve_set_content naming at c s h before sent r command result a t =
     let k = asks_set_content r command a in
-    subst (λ (x : Command). Answers s (answer naming at c s x) h result) (sym k.2) (t k.0 k.1)
+    subst (Row naming at c s h before sent result) (sym k.2) (t k.0 k.1)
+
+pub serve_set_watches : (naming : Naming) (at : Moment) (c : ℕ) (s : State) (h : Held) (before sent : Sent) (r : SetWatches) (command : Command) (result : Result Outcome Memory) → Asks (requests.SetWatches r) command
+    → ((x y z : List Path) → AreTextsOf r.content_paths x → AreTextsOf r.exist_paths y → AreTextsOf r.child_paths z → Row naming at c s h before sent result (set_watches r.seen x y z)) → Row naming at c s h before sent result command
+serve_set_watches naming at c s h before sent r command result a t =
+    let k = asks_watches r command a in
+    subst (Row naming at c s h before sent result) (sym k.is) (t k.contents k.exist k.childs k.content_texts k.exist_texts k.child_texts)
 
 -- what is not refused is not the root
 not_root : (text : List ℕ) → RefusesNode text None → IsRootText text → ⊥
@@ -167,41 +200,52 @@ unfolding text_of
 under text [] t n = absurd (n t.spelled)
 under text (m ∷ q) t n = (m, q, refl)
 
-pub serve_delete : (naming : Naming) (at : Moment) (c : ℕ) (s : State) (h : Held) (r : DeleteRequest) (command : Command) (result : Result Outcome Memory) → Refuses (requests.Delete r) None → Asks (requests.Delete r) command
-    → ((n : List ℕ) (p : Path) → IsTextOf r.path (n ∷ p) → Answers s (answer_single s (perform naming at s (delete (n ∷ p) r.version))) h result) → Answers s (answer naming at c s command) h result
+pub serve_delete : (naming : Naming) (at : Moment) (c : ℕ) (s : State) (h : Held) (before sent : Sent) (r : DeleteRequest) (command : Command) (result : Result Outcome Memory) → Refuses (requests.Delete r) None → Asks (requests.Delete r) command
+    → ((n : List ℕ) (p : Path) → IsTextOf r.path (n ∷ p) → Answers s (answer_single s (perform naming at s (delete (n ∷ p) r.version))) h before sent result) → Row naming at c s h before sent result command
 unfolding answer Refuses
-serve_delete naming at c s h r command result f a t =
+serve_delete naming at c s h before sent r command result f a t =
     let k = asks_delete r command a in
     let u = under r.path k.0 k.1 (not_root r.path f) in
-    subst (λ (x : Command). Answers s (answer naming at c s x) h result) (sym (k.2 ∙ ap (λ (p : Path). single (delete p r.version)) u.2))
+    subst (Row naming at c s h before sent result) (sym (k.2 ∙ ap (λ (p : Path). single (delete p r.version)) u.2))
     (t u.0 u.1 (subst (IsTextOf r.path) u.2 k.1))
 
-pub synced : (naming : Naming) (at : Moment) (c : ℕ) (s : State) (h : Held) (p : Path) (text : List ℕ) (result : Result Outcome Memory) → Means h s → IsTextOf text p
+pub synced : (naming : Naming) (at : Moment) (c : ℕ) (s : State) (h : Held) (before : Sent) (p : Path) (text : List ℕ) (result : Result Outcome Memory) → Means h s → HasRoom before → IsTextOf text p
     → IfOk result (λ o. (naming' : Naming) (at' : Moment) (c' : ℕ) (s' : State) (p' : Path) → IsTextOf text p' → Tells s' (answer naming' at' c' s' (sync p')) o)
-    → Answers s (answer naming at c s (sync p)) h result
+    → Row naming at c s h before before result (sync p)
 unfolding Answers
-synced naming at c s h p text (Ok o) m t f = told_answers s _ h o m (f naming at c s p t)
-synced naming at c s h p text (Err e) m t f = m
+synced naming at c s h before p text (Ok o) m room t f = told_answers s _ h before o m room (f naming at c s p t)
+synced naming at c s h before p text (Err e) m room t f = m
 
--- without watches none goes
-none_go : (o : Option ℕ) (c : ℕ) (ws : List Watch) → ws ≡ [] → watches_gone o ws ≡ left_of_others c ws
-unfolding watches_gone left_of_others
-none_go None c ws h = h ∙ ap (left_of_others c) (sym h)
-none_go (Some d) c ws h = ap (left_of_others d) h ∙ ap (left_of_others c) (sym h)
+-- ---- close
+
+-- no session goes with the ephemerals
+sessions_stay : (z : ℤ) (ps : List Path) (s : State) → (all_deleted z ps s).state.sessions ≡ s.sessions
+unfolding all_deleted no_effects deleted
+sessions_stay z [] s = refl
+sessions_stay z (p ∷ ps) s = sessions_stay z ps (deleted z p s).state
+
+-- the connection that the session has is the one that asks
+its_watches : (k : ℤ) (c : ℕ) (x : Session) (xs : List Session) (ws : List Watch) → session_at k xs ≡ Some x → x.connection ≡ Some c → watches_gone (connection_at (session_at k xs)) ws ≡ left_of_others c ws
+unfolding watches_gone connection_at
+its_watches k c x xs ws live on =
+    ap (λ (o : Option Session). watches_gone (connection_at o) ws) live ∙ ap (λ (o : Option ℕ). watches_gone o ws) on
+
+pub ended_closed : (k : ℤ) (c : ℕ) (x : Session) (z : ℤ) (ps : List Path) (s : State) → session_at k s.sessions ≡ Some x → x.connection ≡ Some c
+    → ended k (all_deleted z ps s).state ≡ closed k c (all_deleted z ps s).state
+unfolding ended closed
+ended_closed k c x z ps s live on =
+    let u : State = (all_deleted z ps s).state in
+    let there : session_at k u.sessions ≡ Some x = ap (session_at k) (sessions_stay z ps s) ∙ live in
+    ap (λ (ws : List Watch). record u { sessions = without_session k u.sessions; watches = ws }) (its_watches k c x u.sessions u.watches there on)
 
 -- the session, its connection and its ephemerals go
-pub serve_close : (naming : Naming) (at : Moment) (c : ℕ) (s : State) (h before : Held) (command : Command) → Means before s → Asks requests.Close command
-    → Means h (ended at.session (all_deleted at.zxid (ephemerals at.session s.nodes) s).state) → Answers s (answer naming at c s command) h (Ok outcomes.Empty)
-unfolding Answers answer closed ended
-serve_close naming at c s h before command m a n =
-    let e = all_deleted at.zxid (ephemerals at.session s.nodes) s in
-    let is = all_deleted_is at.zxid (ephemerals at.session s.nodes) s m.watches in
-    let bare : e.state.watches ≡ [] = ap (λ (x : Effects). x.state.watches) is in
-    subst (λ (x : Command). Answers s (answer naming at c s x) h (Ok outcomes.Empty)) (sym (asks_close command a)) (
-      refl,
-      ap (λ (x : Effects). x.events) is,
-      subst (λ (ws : List Watch). Means h (record e.state { sessions = without_session at.session e.state.sessions; watches = ws })) (none_go (connection_at (session_at at.session e.state.sessions)) c e.state.watches bare) n,
-    )
+pub serve_close : (naming : Naming) (at : Moment) (c : ℕ) (s : State) (x : Session) (h : Held) (before sent : Sent) (command : Command) → session_at at.session s.sessions ≡ Some x → x.connection ≡ Some c → Asks requests.Close command
+    → Means h (ended at.session (all_deleted at.zxid (ephemerals at.session s.nodes) s).state) → sent.items ≡ before.items ++ (all_deleted at.zxid (ephemerals at.session s.nodes) s).events → HasRoom sent
+    → Row naming at c s h before sent (Ok outcomes.Empty) command
+unfolding Answers answer
+serve_close naming at c s x h before sent command live on a m events room =
+    subst (Row naming at c s h before sent (Ok outcomes.Empty)) (sym (asks_close command a))
+    (refl, record { items = events; room = room }, subst (Means h) (ended_closed at.session c x at.zxid (ephemerals at.session s.nodes) s live on) m)
 
 -- ---- requests that no row is asked for
 
@@ -209,13 +253,9 @@ pub not_create : (r : Request) (x : CreateRequest) → r ≡ requests.Create x �
 unfolding IsOther
 not_create r x e h = subst IsOther e h
 
-pub not_multi : (r : Request) (x : List Op) → r ≡ requests.Multi x → IsServed r → ⊥
-unfolding IsServed
-not_multi r x e h = subst IsServed e h
-
-pub not_watches : (r : Request) (x : SetWatches) → r ≡ requests.SetWatches x → IsServed r → ⊥
-unfolding IsServed
-not_watches r x e h = subst IsServed e h
+pub not_multi : (r : Request) (x : List Op) → r ≡ requests.Multi x → IsOther r → ⊥
+unfolding IsOther
+not_multi r x e h = subst IsOther e h
 
 none_is_some : {A : Type 0} (a : A) → None ≡ Some a → ⊥
 none_is_some a h = absurd cc

@@ -246,24 +246,3 @@ heard_back k now xs x distinct live =
     some_same a b h = cc
 
 -- ---- the session of a connection is live
-
-pub record IsLive (k : ℤ) (xs : List Session) : Type 0 where
-  pub session : Session
-  pub live : session_at k xs ≡ Some session
-
-pub live_on : (c : ℕ) (k : ℤ) (xs : List Session) → session_of c xs ≡ Some k → IsLive k xs
-live_on c k [] h = absurd (none_on c k h)
-live_on c k (x ∷ xs) h = elim (cases_Bool (is_numbered k x)) [
-  | inl numbered ↦ record { session = x; live = at_first k x xs numbered }
-  | inr other ↦ elim (cases_Bool (has_connection c x)) [
-    | inl on ↦
-        let own : x.number ≡ k = some_number x.number k (sym (on_first c x xs on) ∙ h) in
-        absurd (both_ways _ other (ap (λ (z : ℤ). is_numbered z x) (sym own) ∙ own_number x))
-    | inr off ↦
-        let rest = live_on c k xs (sym (on_others c x xs off) ∙ h) in
-        record { session = rest.session; live = at_others k x xs other ∙ rest.live }
-  ]
-]
-  where
-    some_number : (a b : ℤ) → Some a ≡ Some b → a ≡ b
-    some_number a b e = cc

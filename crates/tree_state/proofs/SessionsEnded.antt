@@ -6,6 +6,7 @@ use Rattle.std.proofs.lemmas.Bool.{cases_Bool}
 use Rattle.tree_state.specs.declared.session.Session as code
 use Rattle.tree_state.specs.declared.session.Sessions.{Sessions}
 use Rattle.tree_state.specs.State.{Session, has_connection, session_of, session_at, is_numbered, changed_session, change_session, without_session, without_connection}
+use Rattle.tree_state.specs.Step.{connection_at}
 use Rattle.tree_state.specs.Sessions.{Keeps, Owning, OwnsPaths, OwnTexts, session_at_key}
 use Rattle.tree_state.proofs.SessionLists.{AreDistinct, AreTied, has_its, is_on, all_live, same_all, nothing_lost, nothing_gone}
 use Rattle.tree_state.proofs.SessionMaps.{is_key, sessions_of, sorted_distinct, written, removed, distinct_before, owns_found, owns_removed, owns_written}
@@ -138,3 +139,17 @@ nothing_ends t live j k xs owned same h stays keeps =
 pub ended_paths : (t : Sessions) (j k : ℤ) (v : code.Session) (xs : List Session) (owned : Owning) → j ≡ k
     → Some v ≡ get int_cmp t.live j → Keeps t xs owned → OwnTexts v.ephemerals.items (owned k)
 ended_paths t j k v xs owned same h keeps = subst (λ (z : ℤ). OwnTexts v.ephemerals.items (owned z)) same (owns_found j owned t.live.entries v (sym h) keeps.owns)
+
+-- ---- the connection of a session
+
+pub connection_so : (t : Sessions) (j k : ℤ) (v : code.Session) (xs : List Session) (owned : Owning) → j ≡ k → Some v ≡ get int_cmp t.live j → Keeps t xs owned
+    → v.connection ≡ connection_at (session_at k xs)
+unfolding session_at_key connection_at
+connection_so t j k v xs owned same h keeps =
+    sym (ap connection_at (kept_at t xs owned j v keeps (sym h))) ∙ ap (λ (z : ℤ). connection_at (session_at z xs)) same
+
+pub no_connection : (t : Sessions) (j k : ℤ) (xs : List Session) (owned : Owning) → j ≡ k → None ≡ get int_cmp t.live j → Keeps t xs owned
+    → None ≡ connection_at (session_at k xs)
+unfolding connection_at
+no_connection t j k xs owned same h keeps =
+    sym (ap connection_at (not_kept t xs owned j keeps (sym h))) ∙ ap (λ (z : ℤ). connection_at (session_at z xs)) same

@@ -1,5 +1,5 @@
 -- The texts of a short request can be judged.
-use Rattle.std.proofs.Common.{◌≡◌, ℕ, List, Option, Some, None, subst, arith}
+use Rattle.std.proofs.Common.{◌≡◌, ℕ, All, List, Option, Some, None, subst, arith}
 use Rattle.std.proofs.lemmas.List.Elements.{All-weaker}
 use Rattle.zk_records.specs.declared.create.CreateRequest.{CreateRequest}
 use Rattle.zk_messages.specs.Refuses.{HasShortPath, HasShortPaths, IsShortText, AreShortTexts}
@@ -45,3 +45,7 @@ short_paths requests.Close h = tt
 pub short_create : (r : Request) (x : CreateRequest) → r ≡ requests.Create x → HasShortParts r → IsShort x.path × IsShortContent x.content
 unfolding HasShortParts
 short_create r x e h = subst HasShortParts e h
+
+pub short_multi : (r : Request) (list : List Op) → r ≡ requests.Multi list → HasShortParts r → All HasShortOpParts list
+unfolding HasShortParts
+short_multi r list e h = subst HasShortParts e h

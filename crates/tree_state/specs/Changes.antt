@@ -13,7 +13,7 @@ use Rattle.tree_state.specs.declared.message.Output.{Output}
 use Rattle.tree_state.specs.declared.node.Numbers.{Numbers}
 use Rattle.tree_state.specs.declared.node.Moment.{Moment}
 use Rattle.tree_state.specs.Nodes.{Path, Node, above, find, is_there, change, add, remove, has_children, stat_of, greatest_int}
-use Rattle.tree_state.specs.State.{State, on_data, on_children, told, left}
+use Rattle.tree_state.specs.State.{State, Watch, on_data, on_children, told, left}
 use Rattle.tree_state.specs.Commands.{Change, create, delete, set_content, check}
 
 -- ---- checks in order
@@ -116,38 +116,64 @@ with_content at content n = record { content = content; numbers = record n.numbe
 unfoldable pub with_acl : Node → Node
 with_acl n = record { content = n.content; numbers = record n.numbers { aversion = n.numbers.aversion + 1 } }
 
--- a node is made: data watches of its path are told, then child watches of its parent
-unfoldable pub created : Moment → Path → List ℕ → Node → State → Effect
-created at p n node s = record {
-  state = record s {
-    nodes = add (n ∷ p) node (change p (with_creation at.zxid) s.nodes);
-    watches = left on_children p (left on_data (n ∷ p) s.watches);
-    last = at.zxid;
-  };
-  result = results.Created (text_of (n ∷ p));
-  events = events_to (pos 1) (n ∷ p) (told on_data (n ∷ p) s.watches)
-      ++ events_to (pos 4) p (told on_children p s.watches);
-}
+-- ---- what watches are told
+
+-- of a creation: data watches of the path, then child watches of its parent
+unfoldable pub creation_events : Path → List ℕ → List Watch → List Output
+creation_events p n ws =
+    events_to (pos 1) (n ∷ p) (told on_data (n ∷ p) ws)
+    ++ events_to (pos 4) p (told on_children p ws)
+
+unfoldable pub left_by_creation : Path → List ℕ → List Watch → List Watch
+left_by_creation p n ws = left on_children p (left on_data (n ∷ p) ws)
 
 unfoldable pub is_not_in : List ℕ → ℕ → Bool
 is_not_in cs c = not (list_any (λ d. d == c) cs)
 
--- a node goes: data watches of its path are told, then child watches of its path on connections that were not just told,
--- then child watches of its parent
+-- of the end of a node: data watches of the path, then child watches of the path on connections that were not just told
+unfoldable pub end_events : Path → List Watch → List Output
+end_events p ws =
+    events_to (pos 2) p (told on_data p ws)
+    ++ events_to (pos 2) p (filter (is_not_in (told on_data p ws)) (told on_children p ws))
+
+-- of a deletion: the end of the node, then child watches of its parent
+unfoldable pub deletion_events : Path → List Watch → List Output
+deletion_events p ws = end_events p ws ++ events_to (pos 4) (above p) (told on_children (above p) (left on_children p ws))
+
+unfoldable pub left_by_deletion : Path → List Watch → List Watch
+left_by_deletion p ws = left on_children (above p) (left on_children p (left on_data p ws))
+
+-- of a change of content: data watches of the path
+unfoldable pub content_events : Path → List Watch → List Output
+content_events p ws = events_to (pos 3) p (told on_data p ws)
+
+-- ---- what changes do
+
+-- a node is made
+unfoldable pub created : Moment → Path → List ℕ → Node → State → Effect
+created at p n node s = record {
+  state = record s {
+    nodes = add (n ∷ p) node (change p (with_creation at.zxid) s.nodes);
+    watches = left_by_creation p n s.watches;
+    last = at.zxid;
+  };
+  result = results.Created (text_of (n ∷ p));
+  events = creation_events p n s.watches;
+}
+
+-- a node goes
 unfoldable pub deleted : ℤ → Path → State → Effect
 deleted z p s = record {
   state = record s {
     nodes = remove p (change (above p) (with_deletion z) s.nodes);
-    watches = left on_children (above p) (left on_children p (left on_data p s.watches));
+    watches = left_by_deletion p s.watches;
     last = z;
   };
   result = results.Deleted;
-  events = events_to (pos 2) p (told on_data p s.watches)
-      ++ events_to (pos 2) p (filter (is_not_in (told on_data p s.watches)) (told on_children p s.watches))
-      ++ events_to (pos 4) (above p) (told on_children (above p) (left on_children p s.watches));
+  events = deletion_events p s.watches;
 }
 
--- the content of a node is changed: data watches of its path are told
+-- the content of a node is changed
 unfoldable pub updated : Moment → Path → Option (List ℕ) → Node → State → Effect
 updated at p content node s = record {
   state = record s {
@@ -156,7 +182,7 @@ updated at p content node s = record {
     last = at.zxid;
   };
   result = results.Changed (stat_of s.nodes p (with_content at content node));
-  events = events_to (pos 3) p (told on_data p s.watches);
+  events = content_events p s.watches;
 }
 
 -- ---- the rows

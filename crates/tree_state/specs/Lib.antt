@@ -7,4 +7,8 @@ pub mod Shuffles
 pub mod Places
 pub mod Sessions
 pub mod Counts
+pub mod Watches
+pub mod Noticing
 pub mod Trees
+pub mod OneWatch
+pub mod Multis

@@ -36,6 +36,12 @@ OwnsPaths owned e = OwnTexts e.1.ephemerals.items (owned e.0)
 abbrev pub IsOnOne : List Session → Type 0
 IsOnOne xs = (c : ℕ) (x : Session) (session : ℤ) → session_at session xs ≡ Some x → x.connection ≡ Some c → session_of c xs ≡ Some session
 
+-- the session is live and has this connection
+pub record IsLiveOn (xs : List Session) (c : ℕ) (session : ℤ) : Type 0 where
+  pub one : Session
+  pub live : session_at session xs ≡ Some one
+  pub on : one.connection ≡ Some c
+
 -- the maps keep these sessions, in the order of their numbers, and the session of each connection
 pub record Keeps (t : Sessions) (xs : List Session) (owned : Owning) : Type 0 where
   pub sessions : map session_at_key t.live.entries ≡ xs
@@ -58,3 +64,8 @@ without_owned session p owned k = if int_eq k session then filter (λ q. not (sa
 -- the text is not this one
 abbrev pub is_other_text : List ℕ → String Global → Bool
 is_other_text text other = not (bytes_eq (string_bytes other) text)
+
+-- the session is kept as this one is, in texts of its own
+pub record IsCopy (x y : code.Session) : Type 0 where
+  pub same : (session : ℤ) → session_at_key (session, y) ≡ session_at_key (session, x)
+  pub texts : map string_bytes y.ephemerals.items ≡ map string_bytes x.ephemerals.items

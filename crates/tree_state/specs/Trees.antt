@@ -1,5 +1,6 @@
 -- Which state a tree means, and what its calls do to that state.
-use Rattle.std.specs.Prelude.{◌≡◌, ◌≤ℤ◌, ◌<ℤ◌, ◌≤◌, ℕ, ℤ, pos, List, [], ◌∷◌, length, Bool, true, false, Option, Some, None, Result, Ok, Err, All, IfSome}
+use Rattle.std.specs.Prelude.{◌≡◌, ◌≤ℤ◌, ◌<ℤ◌, ◌≤◌, ◌<◌, ◌+◌, ℕ, suc, ℤ, pos, List, [], ◌∷◌, ◌++◌, length, replicate, Bool, true, false, Option, Some, None, Result, Ok, Err, All, IfSome, Vec, vec_len, vec_capacity}
+use Rattle.std.specs.Global.{Global}
 use Rattle.jute_core.specs.declared.held.Memory.{Memory}
 use Rattle.zk_path.specs.Paths.{IsStem, joined, text_of}
 use Rattle.zk_messages.specs.declared.reply.OpResult.{OpResult}
@@ -11,15 +12,18 @@ use Rattle.zk_messages.specs.declared.request.Request.TheVariants as requests
 use Rattle.tree_state.specs.declared.held.Held.{Held}
 use Rattle.tree_state.specs.declared.held.NotDone.{NotDone}
 use Rattle.tree_state.specs.declared.held.NotDone.TheVariants as stops
+use Rattle.tree_state.specs.declared.multi.Stop.{Stop}
+use Rattle.tree_state.specs.declared.multi.Stop.TheVariants as ends
 use Rattle.tree_state.specs.declared.message.Output.{Output}
 use Rattle.tree_state.specs.declared.node.Moment.{Moment}
 use Rattle.tree_state.specs.Nodes.{Path, Node, find, has_children, ephemerals}
-use Rattle.tree_state.specs.State.{State, Session, session_of, next_zxid}
+use Rattle.tree_state.specs.State.{State, Session, session_of}
 use Rattle.tree_state.specs.Commands.{IsTextOf, create}
-use Rattle.tree_state.specs.Changes.{Naming, Trial, failed, done, Effect, has_owner, is_at_last, perform}
+use Rattle.tree_state.specs.Changes.{Naming, Trial, failed, done, Effect, Effects, has_owner, is_at_last, perform, runtime_inconsistency}
 use Rattle.tree_state.specs.Step.{Answer, Act, step}
 use Rattle.tree_state.specs.Places.{Holds}
 use Rattle.tree_state.specs.Sessions.{Keeps}
+use Rattle.tree_state.specs.Watches.{Watching}
 
 -- a node belongs to no session or to one that was given so far; one that belongs to a session has no children and is not the root
 pub record AreOwned (s : State) : Type 0 where
@@ -38,7 +42,7 @@ pub record Means (h : Held) (s : State) : Type 0 where
   pub sessions : Keeps h.sessions s.sessions (λ session. ephemerals session s.nodes)
   pub owners : AreOwned s
   pub numbers : All (IsGiven s) s.sessions
-  pub watches : s.watches ≡ []
+  pub watches : Watching h.watches s.watches
   pub last : h.last ≡ s.last
 
 -- what was held stays held
@@ -56,10 +60,24 @@ pub record CanConnect (s : State) (connection : ℕ) (fresh : ℤ) : Type 0 wher
   pub positive : pos 1 ≤ℤ fresh
   pub above : s.greatest <ℤ fresh
 
--- the answer leaves this outcome and no events, and what is held means the state after it; without memory all is as it was
-unfoldable pub Answers : State → Answer → Held → Result Outcome Memory → Type 0
-Answers s a after (Ok outcome) = (outcome ≡ a.outcome) × (a.events ≡ []) × Means after a.state
-Answers s a after (Err e) = Means after s
+-- there is room for one more
+abbrev pub HasRoom : Vec Output Global → Type 0
+HasRoom outputs = vec_len outputs < vec_capacity outputs
+
+-- these events were added, and there is room for a reply after them
+pub record AreTold (before after : Vec Output Global) (events : List Output) : Type 0 where
+  pub items : after.items ≡ before.items ++ events
+  pub room : HasRoom after
+
+-- the answer leaves this outcome, its events are told, and what is held means the state after it; without memory all is as it was
+unfoldable pub Answers : State → Answer → Held → Vec Output Global → Vec Output Global → Result Outcome Memory → Type 0
+Answers s a after before sent (Ok outcome) = (outcome ≡ a.outcome) × AreTold before sent a.events × Means after a.state
+Answers s a after before sent (Err e) = Means after s
+
+-- the same of an answer that tells no watch
+unfoldable pub Quietly : State → Answer → Held → Result Outcome Memory → Type 0
+Quietly s a after (Ok outcome) = (outcome ≡ a.outcome) × (a.events ≡ []) × Means after a.state
+Quietly s a after (Err e) = Means after s
 
 -- the same of an answer that changes nothing
 unfoldable pub Tells : State → Answer → Outcome → Type 0
@@ -77,19 +95,31 @@ MayCreate s p (Ok creations) = (up : Node) × IsParent s p up × (creations ≡ 
 MayCreate s p (Err code) = (naming : Naming) (at : Moment) (n : List ℕ) (content : Option (List ℕ)) (sequential ephemeral : Bool)
     → perform naming at s (create p n content sequential ephemeral) ≡ failed code
 
--- a change draws the next zxid, and is of a session that was given
+-- a change is of a session that was given
 pub record IsMoment (s : State) (at : Moment) : Type 0 where
-  pub next : at.zxid ≡ next_zxid s
   pub positive : pos 1 ≤ℤ at.session
   pub given : at.session ≤ℤ s.greatest
 
--- the same of one change
-unfoldable pub Performs : State → Trial ℤ Effect → Held → Result OpResult NotDone → Type 0
-Performs s (failed code) after (Ok result) = ⊥
-Performs s (done e) after (Ok result) = (result ≡ e.result) × (e.events ≡ []) × Means after e.state
-Performs s (failed code) after (Err (stops.Refused number)) = (number ≡ code) × Means after s
-Performs s (done e) after (Err (stops.Refused number)) = ⊥
-Performs s t after (Err stops.Memory) = Means after s
+-- a change was done with its result, its events are added and what is held means the state after it; or it failed with its code,
+-- and all is as it was
+unfoldable pub Performs : State → Trial ℤ Effect → Held → Vec Output Global → Vec Output Global → Result OpResult NotDone → Type 0
+Performs s (failed code) after before sent (Ok result) = ⊥
+Performs s (done e) after before sent (Ok result) = (result ≡ e.result) × (sent.items ≡ before.items ++ e.events) × Means after e.state
+Performs s (failed code) after before sent (Err (stops.Refused number)) = (number ≡ code) × (sent ≡ before) × Means after s
+Performs s (done e) after before sent (Err (stops.Refused number)) = ⊥
+Performs s t after before sent (Err stops.Memory) = Means after s
+
+-- the codes of a multi of which one change failed
+unfoldable pub failed_codes : ℕ → ℤ → ℕ → List ℤ
+failed_codes before code behind = replicate before (pos 0) ++ code ∷ replicate behind runtime_inconsistency
+
+-- so many changes were done one after another, or one of them failed with its code, and those behind it were not tried
+unfoldable pub PerformsAll : ℕ → Trial (List ℤ) Effects → Held → Vec Output Global → Vec Output Global → Result (Vec OpResult Global) Stop → Type 0
+PerformsAll total (failed codes) after before sent (Ok results) = ⊥
+PerformsAll total (done e) after before sent (Ok results) = (results.items ≡ e.results) × (sent.items ≡ before.items ++ e.events) × Means after e.state
+PerformsAll total (failed codes) after before sent (Err (ends.At index code)) = (behind : ℕ) × (total ≡ index + suc behind) × (codes ≡ failed_codes index code behind)
+PerformsAll total (done e) after before sent (Err (ends.At index code)) = ⊥
+PerformsAll total t after before sent (Err ends.Memory) = Unit {0}
 
 -- the naming has the numberer's names of legal stems, and no others
 unfoldable pub IsNameOf : (List ℕ → Type 0) → Path → Option (List ℕ) → Type 0
@@ -135,19 +165,10 @@ HasShortParts (requests.Auth body) = Unit {0}
 HasShortParts requests.Close = Unit {0}
 HasShortParts (requests.Unknown kind body) = Unit {0}
 
--- no watch is asked for, and no multi
-unfoldable pub IsServed : Request → Type 0
-IsServed (requests.Exists r) = r.watch ≡ false
-IsServed (requests.GetContent r) = r.watch ≡ false
-IsServed (requests.GetChildren r) = r.watch ≡ false
-IsServed (requests.GetChildren2 r) = r.watch ≡ false
-IsServed (requests.Multi list) = ⊥
-IsServed (requests.SetWatches r) = ⊥
-IsServed r = Unit {0}
-
--- a request other than create
+-- a request other than create and multi
 unfoldable pub IsOther : Request → Type 0
 IsOther (requests.Create r) = ⊥
+IsOther (requests.Multi list) = ⊥
 IsOther r = Unit {0}
 
 -- the last component of a new node: the name, or for a sequential node what the naming makes of the stem

@@ -1,14 +1,13 @@
-//! How sessions come and go.
+//! How connections get their sessions.
 
-ghost use Rattle.std.specs.Prelude.{◌≡◌, ◌<ℤ◌, ◌-◌, ◌^◌, [], ◌∷◌, pos, Some, IfOk, OnErr};
-ghost use Rattle.tree_state.specs.State.{State, Session as PlainSession, session_at};
+ghost use Rattle.std.specs.Prelude.{◌≡◌, ◌<ℤ◌, ◌-◌, ◌^◌, [], ◌∷◌, pos, IfOk, OnErr};
+ghost use Rattle.tree_state.specs.State.{State};
 ghost use Rattle.tree_state.specs.Changes.{Naming};
-ghost use Rattle.tree_state.specs.Step.{connects, expires, loses, given_to, answer_connect as ConnectAnswer};
+ghost use Rattle.tree_state.specs.Step.{connects, given_to, answer_connect as ConnectAnswer};
 ghost use Rattle.tree_state.specs.Trees.{Means, Stays, Does, CanConnect};
 
 use crate::held::Held;
 use crate::message::{Message, Output, Outputs};
-use crate::node::Moment;
 use crate::session::Given;
 use jute_core::{Bytes, Memory};
 use std::alloc::Global;
@@ -42,27 +41,6 @@ impl Held {
         }
         self.last += 1;
         Ok(outputs)
-    }
-
-    // The loss of a connection. Takes no memory.
-    pub(crate) fn lose(&mut self, connection: u32)
-        ensures { (naming : Naming) (s : State) → Means self.old s → Does naming s (loses connection) self.new [] }
-    {
-        self.sessions.lose(connection);
-    }
-
-    // The end of a session that was not heard in time. Takes no memory.
-    pub(crate) fn expire(&mut self, alloc: Global, now: i64, session: i64)
-        requires last { self.old.last <ℤ pos (2 ^ 63 - 1) }
-        ensures { (naming : Naming) (s : State) (x : PlainSession) → Means self.old s → session_at session s.sessions ≡ Some x
-            → Does naming s (expires session now) self.new [] }
-    {
-        let at = Moment {
-            zxid: self.last + 1,
-            time: now,
-            session,
-        };
-        self.end_session(alloc, &at);
     }
 }
 

@@ -112,6 +112,19 @@ impl Node {
         }
     }
 
+    /// A copy.
+    #[tactic(auto, using(crate::proofs::CopiedMaps::same_texts), unfolding(crate::specs::Places::node_of))]
+    pub(crate) fn copy(&self, alloc: Global) -> Result<Node, Memory>
+        ensures plain { IfOk result (λ n. node_of n ≡ node_of self.now) }
+        ensures names { IfOk result (λ n. map string_bytes n.names.keys ≡ map string_bytes self.now.names.keys) }
+    {
+        Ok(Node {
+            content: self.content(alloc)?,
+            numbers: self.numbers,
+            names: self.names.clone()?,
+        })
+    }
+
     /// The names of the children, in byte order. The cost is linear in their bytes.
     pub(crate) fn child_names(&self, alloc: Global) -> Result<Texts, Memory>
         ensures { IfOk result (λ names. names ≡ map string_bytes self.now.names.keys) }

@@ -32,6 +32,17 @@ impl Places {
         Ok(Places { nodes })
     }
 
+    /// A copy. The cost is linear in what is held, but for a logarithm of the number of nodes.
+    pub(crate) fn copy(&self, alloc: Global) -> Result<Places, Memory>
+        ensures { IfOk result (λ t. (es : List Place) → Holds self.now es → Holds t es) }
+    {
+        let mut nodes = BTreeMap::new(alloc);
+        for (path, node) in &self.nodes {
+            nodes.insert(path.to_string(alloc)?, node.copy(alloc)?)?;
+        }
+        Ok(Places { nodes })
+    }
+
     /// The node at the path with this text.
     pub(crate) fn find(&self, path: &str) -> Option<&Node>
         ensures { (es : List Place) (p : Path) → Holds self.now es → IsTextOf path.now p → IsFound es p (option_copied result) }

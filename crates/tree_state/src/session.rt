@@ -8,8 +8,8 @@ ghost use Rattle.zk_path.specs.Paths.{text_of};
 ghost use Rattle.tree_state.specs.Commands.{IsTextOf};
 ghost use Rattle.tree_state.specs.Nodes.{Path};
 ghost use Rattle.tree_state.specs.State.{Session as PlainSession, session_of, session_at, change_session, heard_at, without_session, without_connection};
-ghost use Rattle.tree_state.specs.Step.{given_to, is_password_of, no_session as nothing_given, with_session, with_moved};
-ghost use Rattle.tree_state.specs.Sessions.{Keeps, AreBelow, Owning, session_at_key, with_owned, without_owned, is_other_text, OwnTexts};
+ghost use Rattle.tree_state.specs.Step.{connection_at, given_to, is_password_of, no_session as nothing_given, with_session, with_moved};
+ghost use Rattle.tree_state.specs.Sessions.{Keeps, AreBelow, IsLiveOn, Owning, session_at_key, with_owned, without_owned, is_other_text, OwnTexts, IsCopy};
 
 use jute_core::Memory;
 use std::alloc::Global;
@@ -54,6 +54,20 @@ impl Sessions {
         }
     }
 
+    /// A copy. The cost is linear in what is kept, but for a logarithm of the number of sessions.
+    pub(crate) fn copy(&self, alloc: Global) -> Result<Sessions, Memory>
+        ensures { IfOk result (λ t. (xs : List PlainSession) (owned : Owning) → Keeps self.now xs owned → Keeps t xs owned) }
+    {
+        let mut live = BTreeMap::new(alloc);
+        for (number, session) in &self.live {
+            live.insert(*number, session.copy()?)?;
+        }
+        Ok(Sessions {
+            live,
+            connections: self.connections.clone()?,
+        })
+    }
+
     /// The session of a connection. Takes no memory.
     pub(crate) fn session_of(&self, connection: u32) -> Option<i64>
         ensures { (xs : List PlainSession) (owned : Owning) → Keeps self.now xs owned → result ≡ session_of connection xs }
@@ -84,6 +98,7 @@ impl Sessions {
             → Keeps self.new (change_session session (heard_at now) xs) owned }
         ensures back { (xs : List PlainSession) (owned : Owning) (x : PlainSession) → Keeps self.old xs owned → session_at session xs ≡ Some x
             → change_session session (heard_at x.heard) (change_session session (heard_at now) xs) ≡ xs }
+        ensures on { (xs : List PlainSession) (owned : Owning) (c : ℕ) → Keeps self.old xs owned → session_of c xs ≡ Some session → IsLiveOn xs c session }
     {
         if let Some(live) = self.live.get_mut(&session) {
             live.heard = now;
@@ -197,6 +212,27 @@ impl Sessions {
         }
     }
 
+    /// The connection of a session. Takes no memory.
+    pub(crate) fn connection_of(&self, session: i64) -> Option<u32>
+        ensures { (xs : List PlainSession) (owned : Owning) → Keeps self.now xs owned → result ≡ connection_at (session_at session xs) }
+    {
+        match self.live.get(&session) {
+            Some(live) => live.connection,
+            None => None,
+        }
+    }
+
+    /// The paths of a session's ephemerals, in the order in which they were made. Takes no memory.
+    pub(crate) fn ephemerals(&self, session: i64) -> &[String]
+        ensures { (xs : List PlainSession) (owned : Owning) (x : PlainSession) → Keeps self.now xs owned → session_at session xs ≡ Some x
+            → OwnTexts result.now (owned session) }
+    {
+        match self.live.get(&session) {
+            Some(live) => live.ephemerals.as_slice(),
+            None => &[],
+        }
+    }
+
     /// Ends a session: it goes, and its connection, and the paths of its ephemerals are handed out in the order in which they
     /// were made. Takes no memory.
     pub(crate) fn end(&mut self, alloc: Global, session: i64) -> Vec<String>
@@ -215,6 +251,19 @@ impl Sessions {
 }
 
 impl Session {
+    // A copy.
+    fn copy(&self) -> Result<Session, Memory>
+        ensures { IfOk result (λ x. IsCopy self.now x) }
+    {
+        Ok(Session {
+            timeout: self.timeout,
+            password: self.password,
+            heard: self.heard,
+            connection: self.connection,
+            ephemerals: self.ephemerals.clone()?,
+        })
+    }
+
     // The request has the password of this session.
     #[tactic(auto, unfolding(crate::specs::Step::is_password_of, crate::specs::Sessions::session_at_key))]
     fn has_password(&self, asked: &ConnectRequest) -> bool

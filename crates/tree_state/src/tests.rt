@@ -1,18 +1,21 @@
 //! Rows on plain paths, call by call, with the numbers that ZooKeeper's rules give; and each type of request with ample
 //! memory.
 
-ghost use Rattle.std.specs.Prelude.{◌≡◌, ◌≤ℤ◌, pos, false, IfOk};
-ghost use Rattle.tree_state.specs.Trees.{HasShortParts, IsServed, IsShort, IsShortContent};
+mod multis;
+mod watching;
+
+ghost use Rattle.std.specs.Prelude.{◌≤ℤ◌, pos, All, IfOk, IfSome};
+ghost use Rattle.tree_state.specs.Trees.{AreShort, HasShortOpParts, HasShortParts, IsShort, IsShortContent};
 
 use super::*;
-use jute_core::{Bytes, Text};
+use jute_core::{Bytes, Text, Texts};
 use std::alloc::Global;
 use std::test::Fail;
-use zk_messages::{Outcome, Reply, Request};
+use zk_messages::{Op, Ops, Outcome, Reply, Request};
 use zk_path::PlainNumberer;
 use zk_records::{
-    Acl, Acls, ConnectRequest, CreateRequest, DeleteRequest, PathOnly, PathWatch, SetAclRequest,
-    SetContentRequest, Stat,
+    Acl, Acls, CheckRequest, ConnectRequest, CreateRequest, DeleteRequest, PathOnly, PathWatch,
+    SetAclRequest, SetContentRequest, SetWatches, Stat,
 };
 
 const GREATEST: i32 = 2_147_483_647;
@@ -37,6 +40,24 @@ enum Ask {
     Sync(&'static str),
     Ping,
     Close,
+    // exists, getData and getChildren with a watch.
+    WatchNode(&'static str),
+    WatchContent(&'static str),
+    WatchChildren(&'static str),
+    // The zxid that was seen, and a path of contents, of existence and of children.
+    SetWatches(i64, Option<&'static str>, Option<&'static str>, Option<&'static str>),
+    Multi(Part, Part, Part),
+}
+
+// A part of a multi: a path, and flags or a version.
+#[derive(Clone, Copy)]
+enum Part {
+    Create(&'static str, i32),
+    Delete(&'static str, i32),
+    Set(&'static str, i32),
+    Check(&'static str, i32),
+    // Nothing.
+    No,
 }
 
 fn short_text(alloc: Global, text: &str) -> Result<Text, Fail>
@@ -71,12 +92,11 @@ fn open_acls(alloc: Global) -> Result<Option<Acls>, Fail> {
     Ok(Some(Acls::of(vec![in alloc; acl]?)))
 }
 
-fn without_watch(alloc: Global, path: &str) -> Result<PathWatch, Fail>
-    ensures short { IfOk result (λ r. IsShort r.path) }
-    ensures watch { IfOk result (λ r. r.watch ≡ false) }
+fn path_watch(alloc: Global, path: &str, watch: bool) -> Result<PathWatch, Fail>
+    ensures { IfOk result (λ r. IsShort r.path) }
 {
     let path = short_text(alloc, path)?;
-    Ok(PathWatch { path, watch: false })
+    Ok(PathWatch { path, watch })
 }
 
 fn path_only(alloc: Global, path: &str) -> Result<PathOnly, Fail>
@@ -131,36 +151,96 @@ fn set_acl(alloc: Global, path: &str, version: i32) -> Result<SetAclRequest, Fai
     })
 }
 
-#[tactic(auto, unfolding(crate::specs::Trees::HasShortParts, crate::specs::Trees::IsServed))]
+#[tactic(auto, unfolding(crate::specs::Trees::HasShortParts))]
 fn request_of(alloc: Global, ask: Ask) -> Result<Request, Fail>
     ensures short { IfOk result HasShortParts }
-    ensures served { IfOk result IsServed }
 {
     Ok(match ask {
         Ask::Create(path, content, flags) => Request::Create(create(alloc, path, content, flags)?),
         Ask::Delete(path, version) => Request::Delete(delete(alloc, path, version)?),
-        Ask::Exists(path) => Request::Exists(without_watch(alloc, path)?),
-        Ask::Get(path) => Request::GetContent(without_watch(alloc, path)?),
+        Ask::Exists(path) => Request::Exists(path_watch(alloc, path, false)?),
+        Ask::Get(path) => Request::GetContent(path_watch(alloc, path, false)?),
         Ask::Set(path, content, version) => Request::SetContent(set(
             alloc, path, content, version,
         )?),
         Ask::Acl(path) => Request::GetAcl(path_only(alloc, path)?),
         Ask::SetAcl(path, version) => Request::SetAcl(set_acl(alloc, path, version)?),
-        Ask::Children(path) => Request::GetChildren(without_watch(alloc, path)?),
-        Ask::Children2(path) => Request::GetChildren2(without_watch(alloc, path)?),
+        Ask::Children(path) => Request::GetChildren(path_watch(alloc, path, false)?),
+        Ask::Children2(path) => Request::GetChildren2(path_watch(alloc, path, false)?),
         Ask::Sync(path) => Request::Sync(path_only(alloc, path)?),
         Ask::Ping => Request::Ping,
         Ask::Close => Request::Close,
+        Ask::WatchNode(path) => Request::Exists(path_watch(alloc, path, true)?),
+        Ask::WatchContent(path) => Request::GetContent(path_watch(alloc, path, true)?),
+        Ask::WatchChildren(path) => Request::GetChildren(path_watch(alloc, path, true)?),
+        Ask::SetWatches(seen, content, exist, children) => Request::SetWatches(SetWatches {
+            seen,
+            content_paths: paths(alloc, content)?,
+            exist_paths: paths(alloc, exist)?,
+            child_paths: paths(alloc, children)?,
+        }),
+        Ask::Multi(first, second, third) => Request::Multi(ops(alloc, [first, second, third])?),
+    })
+}
+
+// One path, or an empty list.
+fn paths(alloc: Global, path: Option<&str>) -> Result<Option<Texts>, Fail>
+    ensures { IfOk result AreShort }
+{
+    let mut texts = Vec::new(alloc);
+    if let Some(path) = path {
+        texts.push(short_text(alloc, path)?)?;
+    }
+    Ok(Some(Texts::of(texts)))
+}
+
+fn ops(alloc: Global, parts: [Part; 3]) -> Result<Ops, Fail>
+    ensures { IfOk result (All HasShortOpParts) }
+{
+    let mut ops = Vec::new(alloc);
+    for part in parts {
+        match op(alloc, part)? {
+            Some(op) => ops.push(op)?,
+            None => {}
+        }
+    }
+    Ok(Ops::of(ops))
+}
+
+#[tactic(auto, unfolding(crate::specs::Trees::HasShortOpParts))]
+fn op(alloc: Global, part: Part) -> Result<Option<Op>, Fail>
+    ensures { IfOk result (λ op. IfSome op HasShortOpParts) }
+{
+    Ok(match part {
+        Part::Create(path, flags) => Some(Op::Create(create(alloc, path, None, flags)?)),
+        Part::Delete(path, version) => Some(Op::Delete(delete(alloc, path, version)?)),
+        Part::Set(path, version) => Some(Op::SetContent(set(alloc, path, b"set", version)?)),
+        Part::Check(path, version) => Some(Op::Check(CheckRequest {
+            path: short_text(alloc, path)?,
+            version,
+        })),
+        Part::No => None,
     })
 }
 
 // What follows where connection 1 asks with xid 5.
 fn applied(alloc: Global, tree: &mut Plain, now: i64, ask: Ask) -> Result<Outputs, Fail> {
+    asked_by(alloc, tree, now, 1, ask)
+}
+
+// The same of another connection.
+fn asked_by(
+    alloc: Global,
+    tree: &mut Plain,
+    now: i64,
+    connection: u32,
+    ask: Ask,
+) -> Result<Outputs, Fail> {
     if tree.held.last == i64::MAX {
         return Err("no zxid is left".into());
     }
     let request = request_of(alloc, ask)?;
-    Ok(tree.apply(alloc, now, 1, 5, &request)?)
+    Ok(tree.apply(alloc, now, connection, 5, &request)?)
 }
 
 // The reply to connection 1, where it is all that follows.
@@ -185,6 +265,23 @@ fn code_in(outputs: &Outputs) -> i32 {
         ) => *code,
         Some(_) => 0,
         None => 1,
+    }
+}
+
+// The same of the first output, whoever is told.
+fn code_of(outputs: &Outputs) -> i32 {
+    let Some(output) = outputs.get(0) else {
+        return 1;
+    };
+    match &output.message {
+        Message::Reply(
+            Reply {
+                outcome: Outcome::Error { code },
+                ..
+            },
+        ) => *code,
+        Message::Reply(_) => 0,
+        _ => 1,
     }
 }
 
@@ -230,6 +327,13 @@ fn opened(alloc: Global, creations: i32) -> Result<Plain, Fail>
 {
     let mut tree = Tree::starting_at(alloc, PlainNumberer, creations)?;
     connect(alloc, &mut tree, 1, 4_000, 0, &[], 1)?;
+    Ok(tree)
+}
+
+// A root, session 1 on connection 1 and session 2 on connection 2; the last zxid is 2.
+fn opened_twice(alloc: Global) -> Result<Plain, Fail> {
+    let mut tree = opened(alloc, 0)?;
+    connect(alloc, &mut tree, 2, 4_000, 0, &[], 2)?;
     Ok(tree)
 }
 

@@ -1,27 +1,26 @@
 //! The tree: the machine over what is held, with a numberer.
 
-ghost use Rattle.std.specs.Prelude.{◌≡◌, ◌<◌, ◌≤◌, ◌<ℤ◌, ◌≤ℤ◌, ◌↔◌, ◌-◌, ◌^◌, ℕ, List, [], length, pos, Bool, Option, Some, IfOk, IfSome, IsTrue, OnErr, unsigned_abs};
+ghost use Rattle.std.specs.Prelude.{◌≡◌, ◌<ℤ◌, ◌≤ℤ◌, ◌↔◌, ◌-◌, ◌^◌, ℕ, List, [], pos, Some, None, All, IfOk, OnErr, unsigned_abs};
+ghost use Rattle.std.specs.List.{AllZip};
 ghost use Rattle.std.specs.Option.{option_map};
-ghost use Rattle.zk_messages.specs.Refuses.{IsSequential};
-ghost use Rattle.tree_state.specs.Commands.{Command, IsCommand, IsCreate, IsEphemeral, IsTextOf, single, create};
-ghost use Rattle.tree_state.specs.Nodes.{Path, find, child_names, stat_of, greatest_int};
+ghost use Rattle.zk_messages.specs.Refuses.{RefusesOp};
+ghost use Rattle.tree_state.specs.Commands.{Change, Command, IsChange, IsCommand, IsTextOf, multi};
+ghost use Rattle.tree_state.specs.Nodes.{Path, find, child_names, stat_of};
 ghost use Rattle.tree_state.specs.State.{State, Session as PlainSession, start_at, session_of, session_at};
 ghost use Rattle.tree_state.specs.Changes.{Naming};
 ghost use Rattle.tree_state.specs.Step.{connects, asks, loses, expires, given_to, answer};
-ghost use Rattle.tree_state.specs.Places.{text_limit};
-ghost use Rattle.tree_state.specs.Trees.{Means, Stays, Does, Answers, CanConnect, IsMoment, IsNaming, IsNamedTo, name_at, HasShortParts, IsShort, IsShortContent, IsServed};
+ghost use Rattle.tree_state.specs.Trees.{Means, Stays, Does, Answers, CanConnect, HasRoom, IsMoment, IsNaming, HasShortOpParts, HasShortParts};
 
+use crate::events::make_room;
 use crate::held::{Held, alone};
 use crate::message::{Message, Output, Outputs};
+use crate::multi::{Stop, failed_results};
 use crate::node::Moment;
-use crate::texts::parts;
-use jute_core::{Memory, Text, Texts};
+use jute_core::{Memory, Texts};
 use std::alloc::Global;
-use zk_messages::{Outcome, Reply, Request, refusal_of};
-use zk_path::{CannotNumber, Numberer};
-use zk_records::{ConnectRequest, CreateRequest, Stat};
-
-const BAD_ARGUMENTS: i32 = -8;
+use zk_messages::{Ops, Outcome, Reply, Request, Results, refusal_of};
+use zk_path::Numberer;
+use zk_records::{ConnectRequest, Stat};
 
 /// The plain machine over one ordered map of path texts. `N` names its sequential nodes.
 #[derive(Drop)]
@@ -75,10 +74,11 @@ impl<N: Numberer + Drop> Tree<N> {
             .connect(alloc, now, connection, asked, fresh, password)
     }
 
-    /// Answers a request of a connection; errors of the protocol are answers. A connection without a session is not answered.
+    /// Answers a request of a connection; errors of the protocol are answers. Events of watches stand before the reply. A connection
+    /// without a session is not answered. The cost of a multi is linear in all that the tree holds.
     ///
     /// # Errors
-    /// `Memory`; then the tree is as it was, but its numberer may have given a number.
+    /// `Memory`; then the tree is as it was, but its numberer may have given numbers.
     pub fn apply(
         &mut self,
         alloc: Global,
@@ -89,7 +89,6 @@ impl<N: Numberer + Drop> Tree<N> {
     ) -> Result<Outputs, Memory>
         requires last { self.old.held.last <ℤ pos (2 ^ 63 - 1) }
         requires short { HasShortParts request.now }
-        requires served { IsServed request.now }
         ensures step { IfOk result (λ outputs. (naming : Naming) (s : State) (command : Command) → Means self.old.held s → IsNaming (N.named self.old.numberer) naming
             → IsCommand request.now command → Does naming s (asks connection xid command now) self.new.held outputs) }
         ensures memory { OnErr result ((naming : Naming) (s : State) (command : Command) → Means self.old.held s → IsNaming (N.named self.old.numberer) naming
@@ -107,7 +106,7 @@ impl<N: Numberer + Drop> Tree<N> {
         };
         let before = self.held.sessions.heard(session);
         self.held.sessions.hear(session, now);
-        match self.answer(alloc, &at, request) {
+        match self.answer(alloc, &at, connection, request, &mut outputs) {
             Ok(outcome) => {
                 let zxid = self.held.last;
                 outputs.push(Output {
@@ -123,78 +122,66 @@ impl<N: Numberer + Drop> Tree<N> {
         }
     }
 
-    // The outcome of a request, by its row.
-    fn answer(&mut self, alloc: Global, at: &Moment, request: &Request) -> Result<Outcome, Memory>
+    // The outcome of a request, by its row, and its events.
+    fn answer(
+        &mut self,
+        alloc: Global,
+        at: &Moment,
+        connection: u32,
+        request: &Request,
+        outputs: &mut Vec<Output>,
+    ) -> Result<Outcome, Memory>
         requires short { HasShortParts request.now }
-        ensures answers { (naming : Naming) (c : ℕ) (s : State) (x : PlainSession) (command : Command) → Means self.old.held s → IsMoment s at.now → session_at at.now.session s.sessions ≡ Some x
-            → IsServed request.now → IsNaming (N.named self.old.numberer) naming → IsCommand request.now command
-            → Answers s (answer naming at.now c s command) self.new.held result }
+        ensures answers { (naming : Naming) (s : State) (x : PlainSession) (command : Command) → Means self.old.held s → IsMoment s at.now → session_at at.now.session s.sessions ≡ Some x
+            → x.connection ≡ Some connection → HasRoom outputs.old → IsNaming (N.named self.old.numberer) naming → IsCommand request.now command
+            → Answers s (answer naming at.now connection s command) self.new.held outputs.old outputs.new result }
         ensures names { (stem : List ℕ) (number : ℕ) (text : List ℕ) → N.named self.new.numberer stem number text ↔ N.named self.old.numberer stem number text }
     {
         if let Some(code) = refusal_of(request) {
             return Ok(Outcome::Error { code });
         }
         match request {
-            Request::Create(asked) => self.create(alloc, asked, at),
-            request => self.held.serve(alloc, at, request),
+            Request::Create(asked) => {
+                alone(
+                    self.held
+                        .make(alloc, &mut self.numberer, asked, at, outputs),
+                )
+            }
+            Request::Multi(ops) => self.multi(alloc, ops, at, outputs),
+            request => self.held.serve(alloc, at, connection, request, outputs),
         }
     }
 
-    // The row of create.
-    fn create(
+    // The row of multi: over a copy of what is held, which takes its place where all changes were done.
+    fn multi(
         &mut self,
         alloc: Global,
-        asked: &CreateRequest,
+        ops: &Ops,
         at: &Moment,
+        outputs: &mut Vec<Output>,
     ) -> Result<Outcome, Memory>
-        requires path { IsShort asked.now.path }
-        requires content { IsShortContent asked.now.content }
-        ensures answers { (naming : Naming) (c : ℕ) (s : State) (p : Path) (n : List ℕ) (content : Option (List ℕ)) (sequential ephemeral : Bool) → Means self.old.held s → IsMoment s at.now
-            → IsNaming (N.named self.old.numberer) naming → IsCreate asked.now p n content sequential ephemeral
-            → Answers s (answer naming at.now c s (single (create p n content sequential ephemeral))) self.new.held result }
+        requires short { All HasShortOpParts ops.now }
+        ensures answers { (naming : Naming) (c : ℕ) (s : State) (changes : List Change) → Means self.old.held s → IsMoment s at.now → HasRoom outputs.old
+            → IsNaming (N.named self.old.numberer) naming → All (λ op. RefusesOp op None) ops.now → AllZip IsChange ops.now changes
+            → Answers s (answer naming at.now c s (multi changes)) self.new.held outputs.old outputs.new result }
         ensures names { (stem : List ℕ) (number : ℕ) (text : List ℕ) → N.named self.new.numberer stem number text ↔ N.named self.old.numberer stem number text }
     {
-        let (parent, _) = parts(asked.path.as_str());
-        let creations = match self.held.may_create(parent) {
-            Ok(creations) => creations,
-            Err(code) => return Ok(Outcome::Error { code }),
-        };
-        let Some(path) = self.name(alloc, asked, creations)? else {
-            return Ok(Outcome::Error {
-                code: BAD_ARGUMENTS,
-            });
-        };
-        let ephemeral = is_ephemeral(asked);
-        alone(
-            self.held
-                .create(alloc, path.as_str(), &asked.content, ephemeral, at),
-        )
-    }
-
-    // The path of a new node; None where the numberer has no name.
-    fn name(
-        &mut self,
-        alloc: Global,
-        asked: &CreateRequest,
-        creations: u32,
-    ) -> Result<Option<Text>, Memory>
-        requires path { IsShort asked.now.path }
-        requires room { creations < greatest_int }
-        ensures named { IfOk result (λ path. (naming : Naming) (p : Path) (n : List ℕ) (content : Option (List ℕ)) (sequential ephemeral : Bool)
-            → IsNaming (N.named self.old.numberer) naming → IsCreate asked.now p n content sequential ephemeral
-            → IsNamedTo p path (name_at naming p n sequential creations)) }
-        ensures short { IfOk result (λ path. IfSome path (λ text. length text ≤ text_limit)) }
-        ensures held { self.new.held ≡ self.old.held }
-        ensures names { (stem : List ℕ) (number : ℕ) (text : List ℕ) → N.named self.new.numberer stem number text ↔ N.named self.old.numberer stem number text }
-    {
-        let path = asked.path.as_str();
-        if !is_sequential(asked) {
-            return Ok(Some(Text::copy_of(alloc, path)?));
-        }
-        match self.numberer.number(alloc, path, creations as i32) {
-            Ok(text) => Ok(Some(text)),
-            Err(CannotNumber::CannotOpen) => Ok(None),
-            Err(CannotNumber::Memory) => Err(Memory),
+        let mut trial = self.held.copy(alloc)?;
+        let mut events = Vec::new(alloc);
+        match trial.perform_all(alloc, &mut self.numberer, ops.as_slice(), at, &mut events) {
+            Ok(results) => {
+                outputs.append(&mut events)?;
+                make_room(outputs)?;
+                self.held = trial;
+                Ok(Outcome::Multi(Results::of(results)))
+            }
+            Err(Stop::At { index, code }) => Ok(Outcome::Multi(failed_results(
+                alloc,
+                index,
+                code,
+                ops.len(),
+            )?)),
+            Err(Stop::Memory) => Err(Memory),
         }
     }
 
@@ -217,8 +204,7 @@ impl<N: Numberer + Drop> Tree<N> {
         ensures memory { OnErr result (Stays self.old.held self.new.held) }
         ensures numberer { self.new.numberer ≡ self.old.numberer }
     {
-        self.held.expire(alloc, now, session);
-        Ok(Outputs::of(Vec::new(alloc)))
+        self.held.expire(alloc, now, session)
     }
 
     /// The last zxid. Takes no memory.
@@ -262,18 +248,4 @@ impl<N: Numberer + Drop> Tree<N> {
             None => Ok(None),
         }
     }
-}
-
-// Whether a number is asked for.
-fn is_sequential(asked: &CreateRequest) -> bool
-    ensures { IsTrue result ↔ IsSequential asked.now.flags }
-{
-    asked.flags == 2 || asked.flags == 3
-}
-
-// Whether the node will belong to its session.
-fn is_ephemeral(asked: &CreateRequest) -> bool
-    ensures { IsTrue result ↔ IsEphemeral asked.now.flags }
-{
-    asked.flags == 1 || asked.flags == 3
 }

@@ -1,7 +1,7 @@
 //! A tree of sealed names, whose sequential nodes the enclave numbers.
 
 ghost use Rattle.std.specs.Prelude.{IfOk};
-ghost use Rattle.tree_state.specs.Trees.{HasShortParts, IsServed};
+ghost use Rattle.tree_state.specs.Trees.{HasShortParts};
 
 use super::{NAMES, keys};
 use crate::CounterEnclave;
@@ -38,10 +38,9 @@ fn opened(alloc: Global) -> Result<Sealed, Fail> {
 }
 
 // create of a sequential node that stays.
-#[tactic(auto, unfolding(tree_state::specs::Trees::HasShortParts, tree_state::specs::Trees::IsServed))]
+#[tactic(auto, unfolding(tree_state::specs::Trees::HasShortParts))]
 fn sequential(alloc: Global, stem: &str) -> Result<Request, Fail>
     ensures short { IfOk result HasShortParts }
-    ensures served { IfOk result IsServed }
 {
     if stem.len() > 1000 {
         return Err("a long stem".into());

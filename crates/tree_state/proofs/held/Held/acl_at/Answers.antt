@@ -1,4 +1,4 @@
-use Rattle.tree_state.proofs.Reading.{told_acl, no_acl}
+use Rattle.tree_state.proofs.Readings.{told_acl, no_acl}
 use Rattle.tree_state.proofs.held.Held.acl_at.Goals as goal
 
 pub returns-in_default : goal.returns-in_default

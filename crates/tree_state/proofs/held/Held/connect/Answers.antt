@@ -33,7 +33,7 @@ returns-clause-step c = λ naming s means can.
     let some = λ (zero : c.given-given.result.session ≡ pos 0). c.if-given-eq0.false (ap (λ (z : ℤ). of_z w64 z) zero) in
     let given = c.given-given.ensures s.sessions (λ session. ephemerals session s.nodes) means.sessions
     ∙ ap (λ (z : ℤ). given_to s.sessions c.args.asked.now z c.args.password) (to_z-of_z w64 c.args.fresh c.ranges.fresh) in
-    subst (λ (g : Given). Does naming s (connects c.args.connection c.args.asked.now g c.args.now) (record { places = c.if-is_live.self.places; sessions = c.if-is_live.self.sessions; last = to_z w64 (of_z w64 (to_z w64 (of_z w64 c.if-is_live.self.last) +ℤ pos 1)) }) c.in_ok-outputs.outputs) given
+    subst (λ (g : Given). Does naming s (connects c.args.connection c.args.asked.now g c.args.now) (record { places = c.if-is_live.self.places; sessions = c.if-is_live.self.sessions; watches = c.if-is_live.self.watches; last = to_z w64 (of_z w64 (to_z w64 (of_z w64 c.if-is_live.self.last) +ℤ pos 1)) }) c.in_ok-outputs.outputs) given
     (elim c.if-is_live.branch [
       | then-is_live+in_ok-move_to w ↦
           moved_so naming s c.args.connection c.args.asked.now c.given-given.result c.args.now _ _ _ c.args.self.now c.if-is_live.self w.move_to.new.self c.in_ok-outputs.outputs

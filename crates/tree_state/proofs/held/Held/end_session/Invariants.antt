@@ -8,5 +8,5 @@ abbrev pub invariant-loop-path : goal.invariant-loop-path
 invariant-loop-path l = record {
   sessions : l.self.sessions ≡ l.initial.self.sessions;
   nodes : (s : State) (x : Session) → Means l.fn.self s → IsMoment s l.at → session_at l.at.session s.sessions ≡ Some x
-      → AreLeaving l.at.zxid l.at.session s l.self.places (drop l.path-index l.path-items);
+      → AreLeaving l.at.zxid l.at.session s l.self.places l.self.watches (drop l.path-index l.path-items);
 }

@@ -22,4 +22,4 @@ returns c = λ naming k s p m t mo.
     let f : FitsSigned w64 c.args.at.now.zxid = search rules in
     let v : FitsSigned w32 c.args.version = search rules in
     acl_set naming c.args.at.now k s p c.args.version c.args.self.now _ c.args.path.now c.in-Some.node.now c.changed.result m t (c.in-Some.ensures s.nodes p m.places t) (tested c.args.version _ false _ v c.is_other.ensures c.if-is_other.false) c.if-node-ge-LAST.false
-    c.set_acl.ensures refl (to_z-of_z w64 c.args.at.now.zxid f) c.changed.ensures
+    c.set_acl.ensures refl refl (to_z-of_z w64 c.args.at.now.zxid f) c.changed.ensures

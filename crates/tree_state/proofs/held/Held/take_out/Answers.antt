@@ -15,4 +15,5 @@ returns c = λ s n p node m t mo found own none.
     (c.remove.ensures s.nodes n p m.places t (found_there (n ∷ p) s.nodes node found) none)
     (subst (λ (z : ℤ). Keeps c.disown.new.self s.sessions (without_owned z (n ∷ p) (λ k. ephemerals k s.nodes))) (to_z-of_z w64 c.args.owner g)
     (c.disown.ensures s.sessions (λ k. ephemerals k s.nodes) (n ∷ p) m.sessions t))
+    (c.deleted.ensures s.watches p n m.watches t)
     (to_z-of_z w64 c.args.at.now.zxid f)

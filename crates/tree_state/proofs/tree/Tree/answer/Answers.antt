@@ -3,36 +3,44 @@ use Rattle.std.specs.Int.RustNames.{FitsSigned}
 use Rattle.std.proofs.lemmas.Int.{to_z-of_z}
 use Rattle.zk_messages.specs.Refuses.{Refuses}
 use Rattle.zk_messages.specs.declared.request.Request.{Request}
-use Rattle.tree_state.proofs.Answering.{refused_answers, asked_plain, create_answers, other}
-use Rattle.tree_state.proofs.Shorts.{short_paths, short_create}
+use Rattle.tree_state.proofs.Answering.{refused_answers, asked_plain, create_answers, multi_answers, other}
+use Rattle.tree_state.proofs.Shorts.{short_paths, short_create, short_multi}
 use Rattle.tree_state.proofs.tree.Tree.answer.Goals as goal
 
 pub refusal_of-requires : goal.refusal_of-requires
 refusal_of-requires g c = short_paths c.args.request.now c.requires.short
 
-pub create-requires : goal.create-requires
-create-requires g c =
+pub make-requires : goal.make-requires
+make-requires g c =
     let short = short_create c.args.request.now c.in-Create.asked c.in-Create.is c.requires.short in
     record { path = short.0; content = short.1 }
+
+pub multi-requires : goal.multi-requires
+multi-requires g c = record { short = short_multi c.args.request.now _ c.in-Multi.is c.requires.short }
 
 -- what no rule refuses
 not_refused : (r : Request) (found : Option ℤ) → found ≡ None → Refuses r found → Refuses r None
 not_refused r found e h = subst (Refuses r) e h
 
 pub returns-in-Some-clause-answers : goal.returns-in-Some-clause-answers
-returns-in-Some-clause-answers g c = λ naming k s x command m im live sv nm a.
+returns-in-Some-clause-answers g c = λ naming s x command m im live on room nm a.
     let f : FitsSigned w32 c.in-Some.code = search rules in
-    simp to_z-of_z (refused_answers naming c.args.at.now k s c.args.self.now.held c.args.request.now command c.in-Some.code m c.in-Some.ensures a)
+    simp to_z-of_z (refused_answers naming c.args.at.now c.args.connection s c.args.self.now.held c.args.outputs.now c.args.request.now command c.in-Some.code m room c.in-Some.ensures a)
 
 pub returns-in-Create-clause-answers : goal.returns-in-Create-clause-answers
-returns-in-Create-clause-answers g c = λ naming k s x command m im live sv nm a.
-    create_answers naming c.args.at.now k s c.create.new.self.held c.args.request.now c.in-Create.asked command _ c.in-Create.is (not_refused _ _ c.in_default.is c.refusal_of.ensures) a
-    (λ p n d q e h. c.create.ensures.answers naming k s p n d q e m im nm h)
+returns-in-Create-clause-answers g c = λ naming s x command m im live on room nm a.
+    create_answers naming c.args.at.now c.args.connection s c.make.new.self c.args.outputs.now _ c.args.request.now c.in-Create.asked command _ c.in-Create.is (not_refused _ _ c.in_default.is c.refusal_of.ensures) a
+    (λ p n d q e h. c.alone.ensures s _ _ c.args.outputs.now _ room c.make.ensures.room (c.make.ensures.performs naming s p n d q e m im nm h))
+
+pub returns-in-Multi-clause-answers : goal.returns-in-Multi-clause-answers
+returns-in-Multi-clause-answers g c = λ naming s x command m im live on room nm a.
+    multi_answers naming c.args.at.now c.args.connection s c.multi.new.self.held c.args.outputs.now _ c.args.request.now _ command _ c.in-Multi.is (not_refused _ _ c.in_default.is c.refusal_of.ensures) a
+    (λ changes allowed asked. c.multi.ensures.answers naming c.args.connection s changes m im room nm allowed asked)
 
 pub returns-in_default-request : goal.returns-in_default-request
 returns-in_default-request g c = record {
-  answers = λ naming k s x command m im live sv nm a.
+  answers = λ naming s x command m im live on room nm a.
       let plain = not_refused _ _ c.in_default.is c.refusal_of.ensures in
-      c.serve.ensures naming k s x command m im live sv (other c.args.request.now c.in_default-request.not-Create) plain (asked_plain c.args.request.now command plain a);
+      c.serve.ensures naming s x command m im live on room (other c.args.request.now c.in_default-request.not-Create c.in_default-request.not-Multi) plain (asked_plain c.args.request.now command plain a);
   names = λ stem number text. (λ h. h, λ h. h);
 }

@@ -1,4 +1,4 @@
-use Rattle.tree_state.proofs.Reading.{no_names_at, names_at_is}
+use Rattle.tree_state.proofs.Readings.{no_names_at, names_at_is}
 use Rattle.tree_state.proofs.tree.Tree.children.Goals as goal
 
 pub returns-in_ok-child_names-in-Some : goal.returns-in_ok-child_names-in-Some

@@ -1,4 +1,4 @@
-use Rattle.tree_state.proofs.Reading.{no_stat_at, stat_at_is}
+use Rattle.tree_state.proofs.Readings.{no_stat_at, stat_at_is}
 use Rattle.tree_state.proofs.tree.Tree.stat.Goals as goal
 
 pub returns-in-Some : goal.returns-in-Some
