@@ -1,9 +1,7 @@
-pub mod Stable
 pub mod Naming
 pub mod Allowed
 pub mod Ivs
 pub mod Sealing
 pub mod Whole
 pub mod Once
-pub mod Sizes
-pub mod WhenRead
+pub mod Growth

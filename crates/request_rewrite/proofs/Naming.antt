@@ -6,7 +6,7 @@ use Rattle.path_seal.specs.Sealed.{Keys, SealPath, SealStem, sealed}
 use Rattle.watch_rewrite.specs.Watches.{IsShortText, SealsText}
 use Rattle.zk_messages.specs.Refuses.{IsNameFor, IsSequential}
 use Rattle.request_rewrite.specs.Names.{IsPathOf, IsNameOf, SealNameOf}
-use Rattle.request_rewrite.proofs.Stable.{stem_for, path_for}
+use Rattle.zk_messages.proofs.Allowed.{stem_for, path_for}
 
 pub stem_text : (stem : List (List ℕ)) → IsStem stem → text_of stem ≡ joined stem
 unfolding text_of

@@ -1,7 +1,6 @@
 -- The form of a whole request.
 use Rattle.std.proofs.Common.{◌≡◌, ◌≢◌, ◌↔◌, ◌≤◌, ◌<◌, ◌+◌, ◌^◌, ℕ, ℤ, pos, negsuc, List, [], ◌∷◌, Option, Some, None, Result, Ok, Err, inl, inr, refl, sym, ap, ◌∙◌, subst, arith}
-use Rattle.std.specs.Prelude.{All, IfSome, IfOk}
-use Rattle.std.proofs.lemmas.List.Elements.{All-weaker}
+use Rattle.std.specs.Prelude.{IfOk}
 use Rattle.std.proofs.lemmas.Option.{none-some}
 use Rattle.zk_path.specs.Paths.{IsPathText}
 use Rattle.payload_seal.specs.Ivs.{Ivs}
@@ -9,61 +8,25 @@ use Rattle.payload_seal.specs.declared.keys.EntryKeys.{EntryKeys}
 use Rattle.request_queue.specs.declared.asked.Asked.{Asked}
 use Rattle.request_queue.specs.declared.asked.Asked.TheVariants as asks
 use Rattle.request_queue.specs.Asking.{IsAsked}
-use Rattle.watch_rewrite.specs.Watches.{IsShortText, EachText}
+use Rattle.watch_rewrite.specs.Watches.{EachText}
 use Rattle.zk_records.specs.declared.create.CreateRequest.{CreateRequest}
 use Rattle.zk_records.specs.declared.node.SetContentRequest.{SetContentRequest}
 use Rattle.zk_records.specs.declared.set_watches.SetWatches.{SetWatches}
-use Rattle.zk_messages.specs.Refuses.{Rule, IsAllowed, Refuses, RefusesOp, RefusesOps, HasShortPath, HasShortPaths, AreShortTexts}
-use Rattle.zk_messages.specs.Refuses.{IsShortText as IsJudgedText}
+use Rattle.zk_messages.specs.Refuses.{Rule, IsAllowed, Refuses, RefusesOp, RefusesOps}
 use Rattle.zk_messages.proofs.FirstRules.{one_outcome}
+use Rattle.zk_messages.proofs.ShortParts.{request_judged}
 use Rattle.zk_messages.specs.declared.request.Op.{Op}
 use Rattle.zk_messages.specs.declared.request.Op.TheVariants as ops
 use Rattle.zk_messages.specs.declared.request.Request.{Request}
 use Rattle.zk_messages.specs.declared.request.Request.TheVariants as requests
 use Rattle.request_rewrite.specs.Asks.{Asks, AsksPlain, Turns}
 use Rattle.request_rewrite.specs.Ivs.{ivs_from, iv_after, payloads_of, PayloadsOf}
-use Rattle.request_rewrite.specs.Short.{HasShortOpParts, HasShortParts}
 use Rattle.request_rewrite.specs.Veil.{Veil, stand_in}
 use Rattle.request_rewrite.specs.declared.requests.Veiled.{Veiled}
 use Rattle.request_rewrite.specs.declared.veiling.NotVeiled.{NotVeiled}
 use Rattle.request_rewrite.specs.declared.veiling.NotVeiled.TheVariants.{Spent, Memory}
 use Rattle.request_rewrite.proofs.Allowed.{watches_legal}
 use Rattle.request_rewrite.proofs.Ivs.{no_iv}
-
--- ---- texts that can be judged
-
-judged : (text : List ℕ) → IsShortText text → IsJudgedText text
-judged text h = omega (arith, h)
-
-texts_judged : (list : Option (List (List ℕ))) → IfSome list (All IsShortText) → AreShortTexts list
-texts_judged None h = tt
-texts_judged (Some texts) h = All-weaker IsShortText IsJudgedText judged texts h
-
-op_judged : (op : Op) → HasShortOpParts op → HasShortPath op
-unfolding HasShortOpParts
-op_judged (ops.Create r) h = judged r.path h.0
-op_judged (ops.Delete r) h = judged r.path h
-op_judged (ops.SetContent r) h = judged r.path h.0
-op_judged (ops.Check r) h = judged r.path h
-
-pub request_judged : (r : Request) → HasShortParts r → HasShortPaths r
-unfolding HasShortParts
-request_judged (requests.Create r) h = judged r.path h.0
-request_judged (requests.Delete r) h = judged r.path h
-request_judged (requests.Exists r) h = judged r.path h
-request_judged (requests.GetContent r) h = judged r.path h
-request_judged (requests.SetContent r) h = judged r.path h.0
-request_judged (requests.GetAcl r) h = judged r.path h
-request_judged (requests.SetAcl r) h = judged r.path h
-request_judged (requests.GetChildren r) h = judged r.path h
-request_judged (requests.GetChildren2 r) h = judged r.path h
-request_judged (requests.Sync r) h = judged r.path h
-request_judged requests.Ping h = tt
-request_judged (requests.Multi list) h = All-weaker HasShortOpParts HasShortPath op_judged list h
-request_judged (requests.SetWatches r) h = (texts_judged _ h.content, texts_judged _ h.exist, texts_judged _ h.child)
-request_judged (requests.Auth body) h = tt
-request_judged requests.Close h = tt
-request_judged (requests.Unknown kind body) h = tt
 
 -- ---- arms of the match
 

@@ -1,10 +1,9 @@
 -- Laws of veiled forms.
-use Rattle.std.specs.Prelude.{◌≡◌, ◌≤◌, ◌*◌, ◌^◌, ℕ, ℤ, List, length, All}
+use Rattle.std.specs.Prelude.{◌≡◌, ◌≤◌, ◌*◌, ℕ, ℤ, List, length, All}
 use Rattle.payload_seal.specs.declared.keys.EntryKeys.{EntryKeys}
 use Rattle.zk_messages.specs.Requests.{SpellsRequest}
 use Rattle.zk_messages.specs.declared.request.Request.{Request}
 use Rattle.request_rewrite.specs.Ivs.{PayloadsOf}
-use Rattle.request_rewrite.specs.Short.{HasShortParts}
 use Rattle.request_rewrite.specs.Veil.{Veil}
 
 -- a request has one number of payloads to seal, and under keys and IVs one veiled form
@@ -17,7 +16,3 @@ abbrev pub GrowsByThirty : Type 0
 GrowsByThirty =
     (k : EntryKeys) (ivs : List (List ℕ)) (xid : ℤ) (r v : Request) (a b : List ℕ) → All (λ iv. length iv ≡ 12) ivs
     → Veil k ivs r v → SpellsRequest xid r a → SpellsRequest xid v b → length b ≤ 30 * length a
-
--- the request that a body of at most 2 ^ 27 bytes spells has short parts
-abbrev pub IsShortWhenRead : Type 0
-IsShortWhenRead = (xid : ℤ) (r : Request) (body : List ℕ) → length body ≤ 2 ^ 27 → SpellsRequest xid r body → HasShortParts r

@@ -9,7 +9,7 @@
 //! this file.
 #![tactic(auto)]
 
-ghost use Rattle.request_rewrite.specs.Laws.{IsVeiledOnce, GrowsByThirty, IsShortWhenRead};
+ghost use Rattle.request_rewrite.specs.Laws.{IsVeiledOnce, GrowsByThirty};
 
 mod names;
 mod ops;
@@ -28,11 +28,6 @@ pub fn veiled_once()
 /// two bytes of it become 59.
 pub fn grows_by_thirty()
     ensures { GrowsByThirty }
-{}
-
-/// The law that a request that was read from a body of at most 134,217,728 bytes is short enough for [`veil_request`].
-pub fn short_when_read()
-    ensures { IsShortWhenRead }
 {}
 
 #[cfg(test)]

@@ -4,7 +4,7 @@ ghost use Rattle.std.specs.Prelude.{◌≡◌, ◌+◌, ◌≤◌, ◌^◌, sum_
 ghost use Rattle.std.specs.List.{AllZip};
 ghost use Rattle.request_rewrite.specs.Asks.{AsksOp};
 ghost use Rattle.request_rewrite.specs.Ivs.{ivs_from, ivs_of_op, payloads_of_op};
-ghost use Rattle.request_rewrite.specs.Short.{HasShortOpParts};
+ghost use Rattle.zk_messages.specs.Short.{HasShortOpParts};
 ghost use Rattle.request_rewrite.specs.Veil.{IsAllowedOp, VeilsOp, VeilsOps};
 
 use crate::records::{veil_check, veil_create, veil_delete, veil_set_content};
@@ -40,7 +40,7 @@ pub(crate) fn payloads_of_op(op: &Op) -> u64
 }
 
 // An operation before which so many IVs are used.
-#[tactic(auto, using(crate::proofs::Allowed::allowed, crate::proofs::Ivs::content_op), unfolding(crate::specs::Asks::AsksOp, crate::specs::Ivs::ivs_of_op, crate::specs::Ivs::payloads_of_op, crate::specs::Short::HasShortOpParts, crate::specs::Veil::VeilsOp))]
+#[tactic(auto, using(crate::proofs::Allowed::allowed, crate::proofs::Ivs::content_op), unfolding(crate::specs::Asks::AsksOp, crate::specs::Ivs::ivs_of_op, crate::specs::Ivs::payloads_of_op, zk_messages::specs::Short::HasShortOpParts, crate::specs::Veil::VeilsOp))]
 fn veil_op(
     alloc: Global,
     keys: &EntryKeys,

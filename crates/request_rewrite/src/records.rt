@@ -5,7 +5,7 @@ ghost use Rattle.zk_path.specs.Paths.{IsPathText};
 ghost use Rattle.watch_rewrite.specs.Watches.{IsShortText};
 ghost use Rattle.zk_messages.specs.Refuses.{RefusesCreate, RefusesSetAcl};
 ghost use Rattle.request_rewrite.specs.Names.{IsPathOf, IsNameOf};
-ghost use Rattle.request_rewrite.specs.Short.{IsShortContent};
+ghost use Rattle.zk_messages.specs.Short.{IsShortContent};
 ghost use Rattle.request_rewrite.specs.Veil.{VeilsCreate, VeilsSetContent, VeilsDelete, VeilsCheck};
 ghost use Rattle.request_rewrite.specs.Veil.{VeilsPathWatch, VeilsPathOnly, VeilsSetAcl};
 

@@ -8,7 +8,7 @@ ghost use Rattle.zk_messages.specs.Refuses.{RefusesCreate, RefusesSetAcl};
 ghost use Rattle.zk_messages.specs.declared.request.Request.TheVariants as requests;
 ghost use Rattle.request_rewrite.specs.Asks.{Turns};
 ghost use Rattle.request_rewrite.specs.Ivs.{ivs_from, payloads_of_op};
-ghost use Rattle.request_rewrite.specs.Short.{IsShortContent, HasShortOpParts};
+ghost use Rattle.zk_messages.specs.Short.{IsShortContent, HasShortOpParts};
 ghost use Rattle.request_rewrite.specs.Veil.{IsAllowedOp};
 
 use crate::ops::veil_ops;

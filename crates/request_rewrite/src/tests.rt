@@ -3,14 +3,14 @@
 
 ghost use Rattle.std.specs.Prelude.{IfOk, IsTrue};
 ghost use Rattle.zk_records.specs.Acls.{AreShortAcls};
-ghost use Rattle.request_rewrite.specs.Short.{HasShortParts};
+ghost use Rattle.zk_messages.specs.Short.{HasShortParts};
 
 use super::*;
 use payload_seal::{IvSource, read_keys};
 use request_queue::{Asked, Pending};
 use std::alloc::Global;
 use std::test::Fail;
-use zk_messages::{Request, read_request, write_request};
+use zk_messages::{Request, read_request, short_when_read, write_request};
 use zk_records::{Acls, CreateRequest};
 
 const FILE: [u8; 64] = [

@@ -5,7 +5,7 @@ ghost use Rattle.zk_messages.specs.Refuses.{Refuses};
 ghost use Rattle.request_queue.specs.Asking.{IsAsked};
 ghost use Rattle.request_rewrite.specs.Asks.{Asks, Turns};
 ghost use Rattle.request_rewrite.specs.Ivs.{ivs_from, payloads_of, payloads_of_op, PayloadsOf};
-ghost use Rattle.request_rewrite.specs.Short.{HasShortParts};
+ghost use Rattle.zk_messages.specs.Short.{HasShortParts};
 ghost use Rattle.request_rewrite.specs.Veil.{Veil, stand_in};
 
 use crate::ops::payloads_of_op;
@@ -75,7 +75,7 @@ fn stand_in(alloc: Global) -> Result<Request, Memory>
 }
 
 // A request that is not refused.
-#[tactic(auto, using(crate::proofs::Allowed::allowed), unfolding(crate::specs::Ivs::ivs_from, crate::specs::Ivs::payloads_of, crate::specs::Short::HasShortParts, zk_messages::specs::Refuses::Refuses))]
+#[tactic(auto, using(crate::proofs::Allowed::allowed), unfolding(crate::specs::Ivs::ivs_from, crate::specs::Ivs::payloads_of, zk_messages::specs::Short::HasShortParts, zk_messages::specs::Refuses::Refuses))]
 fn veil_allowed(
     alloc: Global,
     keys: &EntryKeys,

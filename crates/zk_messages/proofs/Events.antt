@@ -1,11 +1,11 @@
 -- Where the header of an event goes wrong.
-use Rattle.std.proofs.Common.{◌≡◌, ◌≢◌, ℕ, ℤ, pos, negsuc, ◌+◌, ◌<◌, List, [], ◌++◌, length, refl, inl, inr, ◌∙◌, ap, sym, subst, append_assoc, arith, length-append}
+use Rattle.std.proofs.Common.{◌≡◌, ℕ, pos, negsuc, ◌+◌, ◌<◌, List, [], ◌++◌, length, refl, inl, inr, ◌∙◌, ap, sym, subst, append_assoc, arith, length-append}
 use Rattle.std.proofs.lemmas.List.{append-nil}
-use Rattle.jute_core.specs.Jute.{Jute, Value, Spells, Refused as IsRefused, int, long, pair}
-use Rattle.jute_core.specs.Position.{Position, Passes, Stops}
+use Rattle.jute_core.specs.Jute.{Jute, Value, Spells, int, long}
+use Rattle.jute_core.specs.Position.{Position, Passes}
 use Rattle.jute_core.specs.Records.{Fails}
 use Rattle.jute_core.specs.declared.cursor.Reason.{Reason}
-use Rattle.jute_core.specs.declared.cursor.Reason.TheVariants.{BadHeader, Trailing}
+use Rattle.jute_core.specs.declared.cursor.Reason.TheVariants.{Trailing}
 use Rattle.jute_core.specs.declared.cursor.Refusal.{Refusal}
 use Rattle.jute_core.specs.declared.not_read.NotRead.{NotRead}
 use Rattle.jute_core.specs.declared.not_read.NotRead.TheVariants.{Refused, Memory}
@@ -17,14 +17,6 @@ use Rattle.zk_messages.specs.declared.reply.Event.{Event}
 
 abbrev Refusing : Type 1
 Refusing = ℕ → List ℕ → ℕ → Reason → Type 0
-
--- the field fails
-field_stops : (t : Jute) (v : Value t) (B : Refusing) (a : Position) (r : Refusal) → Stops a t r → FailsAt a (IsWrong t v B) (Refused r)
-field_stops t v B a r h = record { refused = inl h.refused }
-
--- it has another value
-field_differs : (t : Jute) (v w : Value t) (B : Refusing) (a b : Position) → Passes a b t w → w ≢ v → FailsAt a (IsWrong t v B) (Refused (record { place = a.place; reason = BadHeader }))
-field_differs t v w B a b p other = record { refused = inr (inl (w, p.bytes, b.left, p.spelled, p.cut, other, refl, refl)) }
 
 -- something behind it is wrong
 field_then_wrong : (t : Jute) (v : Value t) (B : Refusing) (a b : Position) (e : NotRead) → Passes a b t v → FailsAt b B e → FailsAt a (IsWrong t v B) e

@@ -1,11 +1,11 @@
 -- Rules in order, of which the first that fits counts.
-use Rattle.std.proofs.Common.{◌≡◌, ◌⊎◌, ◌↔◌, ℕ, ℤ, ◌+◌, ◌<◌, ◌≤◌, List, [], ◌∷◌, length, take, take_all, drop, get_or, Option, Some, None, IsTrue, true, false, refl, inl, inr, ◌∙◌, ap, sym, subst}
+use Rattle.std.proofs.Common.{◌≡◌, ◌↔◌, ℕ, ℤ, ◌+◌, ◌<◌, ◌≤◌, List, [], ◌∷◌, length, take, take_all, drop, get_or, Option, Some, None, IsTrue, true, false, refl, inl, inr, ◌∙◌, ap, sym, subst}
 use Rattle.std.specs.Prelude.{All}
 use Rattle.std.proofs.lemmas.Bool.{false≢true}
 use Rattle.std.proofs.lemmas.List.{drop_more, drop_all}
 use Rattle.std.proofs.lemmas.List.Elements.{All-get_or}
 use Rattle.std.proofs.lemmas.Option.{none-some}
-use Rattle.zk_messages.specs.Refuses.{Rule, IsAllowed, RefusesPath, RefusesNode, RefusesCreate, RefusesSetAcl, RefusesWatches, RefusesOp, RefusesOps, Refuses, HasOneOutcome}
+use Rattle.zk_messages.specs.Refuses.{Rule, IsAllowed, RefusesPath, RefusesNode, RefusesCreate, RefusesOp, RefusesOps, Refuses, HasOneOutcome}
 use Rattle.zk_records.specs.declared.create.CreateRequest.{CreateRequest}
 use Rattle.zk_messages.specs.declared.request.Op.{Op}
 use Rattle.zk_messages.specs.declared.request.Op.TheVariants as ops

@@ -15,3 +15,6 @@ pub mod FirstRules
 pub mod Replies
 pub mod Requests
 pub mod ShortPaths
+pub mod Allowed
+pub mod Sizes
+pub mod ShortParts

@@ -1,7 +1,6 @@
 -- Bytes that a relation says, read and written one after another.
 use Rattle.std.proofs.Common.{◌≡◌, ℕ, List, [], ◌∷◌, ◌++◌, ◌+◌, ◌<◌, ◌≤◌, take, take_all, get_or, suc, length, refl, ◌∙◌, ap, sym, subst, append_assoc, arith, length-append}
 use Rattle.std.proofs.Math.Seq.{take-suc}
-use Rattle.std.proofs.lemmas.List.{append-nil}
 use Rattle.jute_core.specs.Jute.{Jute, Value, Spells, Refused as IsRefused, Each}
 use Rattle.jute_core.specs.Position.{Position, Passes, Adds, Grows}
 use Rattle.jute_core.proofs.Many.{each_then}

@@ -1,8 +1,8 @@
 -- Reading and writing replies, exit by exit.
-use Rattle.std.proofs.Common.{◌≡◌, ◌≢◌, ◌⊎◌, ℕ, ℤ, pos, negsuc, ◌+◌, ◌<◌, ◌^◌, List, [], ◌++◌, length, Option, refl, inl, inr, ◌∙◌, ap, sym, subst, append_assoc, arith, length-append}
+use Rattle.std.proofs.Common.{◌≡◌, ◌≢◌, ◌⊎◌, ℕ, ℤ, pos, negsuc, ◌<◌, List, [], ◌++◌, length, Option, refl, inl, inr, ◌∙◌, ap, sym, subst, append_assoc, arith, length-append}
 use Rattle.std.proofs.lemmas.List.{append-nil}
-use Rattle.jute_core.specs.Jute.{Jute, Value, Spells, Refused as IsRefused, int, long, buffer, ustring, pair, vector}
-use Rattle.jute_core.specs.Position.{Position, Passes, Stops, Adds}
+use Rattle.jute_core.specs.Jute.{Jute, Spells, Refused as IsRefused, buffer, ustring, pair, vector}
+use Rattle.jute_core.specs.Position.{Position, Passes, Adds}
 use Rattle.jute_core.specs.Records.{Fails}
 use Rattle.jute_core.specs.declared.cursor.Reason.{Reason}
 use Rattle.jute_core.specs.declared.cursor.Reason.TheVariants.{Trailing}
@@ -16,7 +16,7 @@ use Rattle.zk_records.specs.declared.header.ReplyHeader.{ReplyHeader}
 use Rattle.zk_records.specs.Stats.{stat, stat_fields}
 use Rattle.zk_records.specs.declared.acl.Acl.{Acl}
 use Rattle.zk_records.specs.declared.stat.Stat.{Stat}
-use Rattle.zk_messages.specs.Forms.{Form, FormValue, SpellsForm, RefusedFront, RefusedForm, IsFollowed, form_of_shape, unread}
+use Rattle.zk_messages.specs.Forms.{FormValue, SpellsForm, RefusedFront, RefusedForm, IsFollowed, form_of_shape}
 use Rattle.zk_messages.specs.Multi.{SpellsResults}
 use Rattle.zk_messages.specs.Reading.{Reaches, FailsAt, FailsBody}
 use Rattle.zk_messages.specs.Replies.{SpellsOutcome, SpellsReply, RefusedReply, HasShape, IsOutcome, IsReply, SpellsEvent, err_of, event_record, event_fields}

@@ -1,5 +1,5 @@
 -- Reading and writing requests, exit by exit.
-use Rattle.std.proofs.Common.{◌≡◌, ◌≢◌, ◌⊎◌, ℕ, ℤ, pos, ◌+◌, ◌<◌, List, [], ◌++◌, length, Option, Some, None, Result, Ok, Err, OnOk, refl, inl, inr, ◌∙◌, ap, sym, subst, append_assoc, arith, length-append}
+use Rattle.std.proofs.Common.{◌≡◌, ◌≢◌, ◌⊎◌, ℕ, ℤ, pos, ◌<◌, List, [], ◌++◌, length, Option, Some, None, Result, Ok, Err, OnOk, refl, inl, inr, ◌∙◌, ap, sym, subst, append_assoc, arith, length-append}
 use Rattle.std.proofs.lemmas.List.{append-nil}
 use Rattle.std.proofs.lemmas.Option.{none-some}
 use Rattle.std.specs.Option.{option_map_or}
@@ -13,7 +13,7 @@ use Rattle.jute_core.specs.declared.not_read.NotRead.{NotRead}
 use Rattle.jute_core.specs.declared.not_read.NotRead.TheVariants.{Refused, Memory}
 use Rattle.zk_records.specs.Headers.{request_header}
 use Rattle.zk_messages.specs.Kinds.{kind_number, kind_of}
-use Rattle.zk_messages.specs.Forms.{Form, FormValue, SpellsForm, RefusedFront, RefusedForm, IsFollowed, fields, nothing, operations, unread, form_of, form_of_any}
+use Rattle.zk_messages.specs.Forms.{FormValue, SpellsForm, RefusedFront, RefusedForm, IsFollowed, fields, nothing, operations, unread, form_of, form_of_any}
 use Rattle.zk_messages.specs.Multi.{SpellsOps}
 use Rattle.zk_messages.specs.Reading.{Reaches, FailsAt, FailsBody}
 use Rattle.zk_messages.specs.Requests.{IsKind, MayHave, IsUnknown, SpellsRequest, RefusedRequest, number_of, fields_of}

@@ -1,6 +1,6 @@
 -- What can be written can be judged.
 use Rattle.std.proofs.Common.{ℕ, ◌<◌, ◌^◌, List, length, Option, Some, None, arith}
-use Rattle.std.specs.Prelude.{All, IfSome}
+use Rattle.std.specs.Prelude.{IfSome}
 use Rattle.std.proofs.lemmas.List.Elements.{All-weaker}
 use Rattle.jute_core.specs.Lists.{AreShort}
 use Rattle.zk_messages.specs.Refuses.{IsShortText, AreShortTexts, HasShortPath, HasShortPaths}

@@ -1,8 +1,9 @@
 -- Laws of messages: a body is one message or none, and is spelled in one way, a body that is a message is not refused,
--- and a refusal has one place and one reason.
-use Rattle.std.specs.Prelude.{◌≡◌, ℕ, ℤ, List}
+-- and a refusal has one place and one reason. What a body of at most 2 ^ 27 bytes spells has short parts.
+use Rattle.std.specs.Prelude.{◌≡◌, ◌≤◌, ◌^◌, ℕ, ℤ, List, length}
 use Rattle.jute_core.specs.declared.cursor.Reason.{Reason}
 use Rattle.zk_messages.specs.Requests.{SpellsRequest, RefusedRequest}
+use Rattle.zk_messages.specs.Short.{HasShortParts}
 use Rattle.zk_messages.specs.Replies.{SpellsReply, RefusedReply, SpellsEvent, RefusedEvent}
 use Rattle.zk_messages.specs.declared.request.Request.{Request}
 use Rattle.zk_messages.specs.declared.reply.Reply.{Reply}
@@ -50,3 +51,7 @@ IsEventOrRefused body = (e : Event) (place : ℕ) (reason : Reason) → SpellsEv
 
 abbrev pub HasOneEventRefusal : List ℕ → Type 0
 HasOneEventRefusal body = (p q : ℕ) (r s : Reason) → RefusedEvent body p r → RefusedEvent body q s → (p ≡ q) × (r ≡ s)
+
+-- the request that a body of at most 2 ^ 27 bytes spells has short parts
+abbrev pub IsShortWhenRead : Type 0
+IsShortWhenRead = (xid : ℤ) (r : Request) (body : List ℕ) → length body ≤ 2 ^ 27 → SpellsRequest xid r body → HasShortParts r

@@ -10,3 +10,4 @@ pub mod Items
 pub mod Sent
 pub mod Laws
 pub mod Refuses
+pub mod Short

@@ -1,6 +1,6 @@
 -- Requests that are refused before the store sees them, each with the code of its error: this project's own profile of the
 -- Programmer's Guide ("Data Model", "ACLs"), with the codes of KeeperException in the Java sources of ZooKeeper 3.4.
-use Rattle.std.specs.Prelude.{◌≡◌, ◌⊎◌, ℕ, ℤ, pos, negsuc, ◌<◌, ◌<ℤ◌, ◌^◌, List, [], ◌∷◌, length, codes, Option, Some, None, IfSome, All}
+use Rattle.std.specs.Prelude.{◌≡◌, ◌⊎◌, ℕ, ℤ, pos, negsuc, ◌<◌, ◌^◌, List, [], ◌∷◌, length, codes, Option, Some, None, IfSome, All}
 use Rattle.zk_path.specs.Paths.{IsPathText, IsStemText}
 use Rattle.zk_records.specs.declared.acl.Acl.{Acl}
 use Rattle.zk_records.specs.declared.create.CreateRequest.{CreateRequest}

@@ -2,13 +2,12 @@
 -- Java sources of ZooKeeper 3.4).
 use Rattle.std.specs.Prelude.{◌≡◌, ◌≢◌, ◌⊎◌, ℕ, ℤ, pos, negsuc, ◌+◌, ◌<◌, List, [], ◌++◌, length}
 use Rattle.jute_core.specs.Jute.{Jute, Value, Spells, Refused, int, long, ustring, pair}
-use Rattle.jute_core.specs.Whole.{RefusedWhole}
 use Rattle.jute_core.specs.declared.cursor.Reason.{Reason}
 use Rattle.jute_core.specs.declared.cursor.Reason.TheVariants.{Trailing, BadHeader}
 use Rattle.zk_records.specs.Acls.{acls_fields}
 use Rattle.zk_records.specs.Headers.{reply_header}
 use Rattle.zk_records.specs.Stats.{stat_fields}
-use Rattle.zk_messages.specs.Forms.{Form, FormValue, SpellsForm, RefusedForm, fields, nothing, form_of_shape}
+use Rattle.zk_messages.specs.Forms.{SpellsForm, RefusedForm, fields, form_of_shape}
 use Rattle.zk_messages.specs.declared.reply.Event.{Event}
 use Rattle.zk_messages.specs.declared.reply.Outcome.{Outcome}
 use Rattle.zk_messages.specs.declared.reply.Outcome.TheVariants as outcomes

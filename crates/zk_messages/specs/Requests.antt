@@ -1,6 +1,6 @@
 -- Which bytes are a request, and where bytes that are none go wrong (zookeeper.jute; types and special xids from the Java
 -- sources of ZooKeeper 3.4).
-use Rattle.std.specs.Prelude.{◌≡◌, ◌≢◌, ◌⊎◌, ℕ, ℤ, pos, negsuc, List, ◌++◌, length, Option, Some, None}
+use Rattle.std.specs.Prelude.{◌≡◌, ◌≢◌, ◌⊎◌, ℕ, ℤ, pos, negsuc, List, ◌++◌, Option, Some, None}
 use Rattle.std.specs.Option.{option_map_or}
 use Rattle.jute_core.specs.Jute.{Spells, Refused}
 use Rattle.jute_core.specs.declared.cursor.Reason.{Reason}

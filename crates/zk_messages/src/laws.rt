@@ -4,7 +4,7 @@
 ghost use Rattle.std.specs.Prelude.{ℕ, ℤ, List};
 ghost use Rattle.zk_messages.specs.Laws.{IsOneRequest, HasOneSpelling, IsRequestOrRefused, HasOneRefusal};
 ghost use Rattle.zk_messages.specs.Laws.{IsOneReply, HasOneReplySpelling, IsReplyOrRefused, HasOneReplyRefusal};
-ghost use Rattle.zk_messages.specs.Laws.{IsOneEvent, HasOneEventSpelling, IsEventOrRefused, HasOneEventRefusal};
+ghost use Rattle.zk_messages.specs.Laws.{IsShortWhenRead, IsOneEvent, HasOneEventSpelling, IsEventOrRefused, HasOneEventRefusal};
 ghost use Rattle.zk_messages.specs.declared.request.Request.{Request};
 ghost use Rattle.zk_messages.specs.declared.reply.Reply.{Reply};
 ghost use Rattle.zk_messages.specs.declared.reply.Event.{Event};
@@ -35,4 +35,9 @@ pub fn one_event()
     ensures spelling { (e : Event) → HasOneEventSpelling e }
     ensures or_refused { (body : List ℕ) → IsEventOrRefused body }
     ensures one_place { (body : List ℕ) → HasOneEventRefusal body }
+{}
+
+/// The law that each text and buffer of a request that was read from a body of at most 134,217,728 bytes has at most so many.
+pub fn short_when_read()
+    ensures { IsShortWhenRead }
 {}

@@ -6,3 +6,4 @@ pub mod Cuts
 pub mod Numbered
 pub mod Elements
 pub mod ReadTexts
+pub mod Stable

@@ -1,4 +1,4 @@
-use Rattle.request_rewrite.proofs.Sizes.{grows_by_thirty}
+use Rattle.request_rewrite.proofs.Growth.{grows_by_thirty}
 use Rattle.request_rewrite.proofs.grows_by_thirty.Goals as goal
 
 pub returns : goal.returns

@@ -1,6 +1,5 @@
-use Rattle.std.proofs.Common.{◌<◌, get_or, take, take_all, rules, arith, sym, subst}
-use Rattle.std.specs.Prelude.{All}
-use Rattle.std.proofs.lemmas.List.Elements.{All-get_or, All-more}
+use Rattle.std.proofs.Common.{rules, arith, subst}
+use Rattle.std.proofs.lemmas.List.Elements.{All-more}
 use Rattle.zk_path.specs.Paths.{IsPathText}
 use Rattle.zk_messages.proofs.FirstRules.{not_all, all_are}
 use Rattle.zk_messages.proofs.refusals.all_paths.Goals as goal

@@ -1,4 +1,4 @@
-use Rattle.std.proofs.Common.{ℤ, rules, arith, sym, subst, w32, to_z, of_z}
+use Rattle.std.proofs.Common.{rules, arith, w32}
 use Rattle.std.specs.Int.RustNames.{FitsSigned}
 use Rattle.std.proofs.lemmas.Int.{to_z-of_z}
 use Rattle.zk_messages.proofs.FirstRules.{op_refused, op_allowed, none_left}

@@ -1,5 +1,0 @@
-use Rattle.request_rewrite.proofs.WhenRead.{short_when_read}
-use Rattle.request_rewrite.proofs.short_when_read.Goals as goal
-
-pub returns : goal.returns
-returns c = short_when_read
