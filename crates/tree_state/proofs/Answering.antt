@@ -1,15 +1,15 @@
 -- A refused request is answered with its code, and each other one by its row.
-use Rattle.std.proofs.Common.{◌≡◌, ℕ, ℤ, Bool, List, [], ◌∷◌, All, Option, Some, None, Result, Ok, refl, sym, ap, subst, inl, inr}
+use Rattle.std.proofs.Common.{◌≡◌, ℕ, ℤ, Bool, List, [], All, Option, Some, None, Result, Ok, refl, sym, ap, subst, inl, inr}
 use Rattle.std.specs.List.{AllZip}
-use Rattle.std.proofs.lemmas.List.Elements.{All-nil, All-cons}
 use Rattle.jute_core.specs.declared.held.Memory.{Memory}
 use Rattle.zk_records.specs.declared.create.CreateRequest.{CreateRequest}
-use Rattle.zk_messages.specs.Refuses.{Refuses, RefusesOp, RefusesOps}
+use Rattle.zk_messages.specs.Refuses.{Refuses, RefusesOp}
 use Rattle.zk_messages.specs.declared.reply.Outcome.{Outcome}
 use Rattle.zk_messages.specs.declared.reply.Outcome.TheVariants as outcomes
 use Rattle.zk_messages.specs.declared.request.Op.{Op}
 use Rattle.zk_messages.specs.declared.request.Request.{Request}
 use Rattle.zk_messages.specs.declared.request.Request.TheVariants as requests
+use Rattle.zk_messages.proofs.Allowed.{ops_allowed}
 use Rattle.zk_messages.proofs.FirstRules.{one_outcome}
 use Rattle.tree_state.specs.declared.held.Held.{Held}
 use Rattle.tree_state.specs.declared.node.Moment.{Moment}
@@ -74,19 +74,10 @@ unfolding Asks
 asks_multi list (multi changes) h = record { changes = changes; asked = h; is = refl }
 asks_multi list command h = absurd h
 
-none_some : (a : ℤ) → None ≡ Some a → ⊥
-none_some a h = cc
-
 -- a multi that is not refused has no operation that is
-none_refused : (list : List Op) → RefusesOps list None → All (λ op. RefusesOp op None) list
-unfolding RefusesOps
-none_refused [] h = All-nil (λ op. RefusesOp op None)
-none_refused (op ∷ list) (inl h) = absurd (none_some h.0 h.2)
-none_refused (op ∷ list) (inr h) = All-cons (λ op. RefusesOp op None) op list h.0 (none_refused list h.1)
-
 each_allowed : (list : List Op) → Refuses (requests.Multi list) None → All (λ op. RefusesOp op None) list
 unfolding Refuses
-each_allowed list h = none_refused list h
+each_allowed list h = ops_allowed list h
 
 pub multi_answers : (naming : Naming) (at : Moment) (c : ℕ) (s : State) (h : Held) (before sent : Sent) (r : Request) (list : List Op) (command : Command) (result : Result Outcome Memory) → r ≡ requests.Multi list → Refuses r None → IsCommand r command
     → ((changes : List Change) → All (λ op. RefusesOp op None) list → AllZip IsChange list changes → Answers s (answer naming at c s (multi changes)) h before sent result)

@@ -1,8 +1,7 @@
 -- A request of a connection: its session is heard, it is answered, and the reply carries the last zxid.
-use Rattle.std.proofs.Common.{◌≡◌, ℕ, ℤ, Bool, true, false, cond, List, [], ◌∷◌, ◌++◌, Some, None, Result, Ok, Err, refl, sym, ap, subst, ◌∙◌, inl, inr, arith, FitsSigned, w64, to_z, of_z}
+use Rattle.std.proofs.Common.{◌≡◌, ℕ, ℤ, Bool, true, false, cond, List, [], ◌∷◌, ◌++◌, Some, None, Ok, refl, sym, ap, subst, ◌∙◌, inl, inr, arith, FitsSigned, w64, to_z, of_z}
 use Rattle.std.specs.Prelude.{All, pos, ◌+ℤ◌, ◌≤ℤ◌, ◌<ℤ◌, ◌-◌, ◌^◌, ◌≤◌, vec_capacity, vec_len}
 use Rattle.std.specs.Option.{option_map}
-use Rattle.jute_core.specs.declared.held.Memory.{Memory}
 use Rattle.std.proofs.lemmas.Bool.{cases_Bool}
 use Rattle.std.proofs.lemmas.Int.{ints}
 use Rattle.std.proofs.lemmas.List.Elements.{All-nil, All-cons, All-head, All-tail}
@@ -140,25 +139,19 @@ moment_of s x k h at m live same =
       given = subst (λ (z : ℤ). z ≤ℤ s.greatest) number given.within;
     }
 
--- what an answer shows where its session was heard
-abbrev pub Shows : Naming → ℕ → State → Command → ℤ → ℤ → Held → Sessions → Moment → Held → Sent → Sent → Result Outcome Memory → Type 0
-Shows naming c s command k now before sessions at after empty sent result =
-    (x : Session) → Means (record before { sessions = sessions }) (hears k now s) → IsMoment (hears k now s) at → session_at at.session (hears k now s).sessions ≡ Some x → x.connection ≡ Some c
-    → Answers (hears k now s) (answer naming at c (hears k now s) command) after empty sent result
+-- what holds where a session was heard
+abbrev pub Shows : ℕ → State → ℤ → ℤ → Held → Sessions → Moment → Type 0 → Type 0
+Shows c s k now before sessions at P =
+    (x : Session) → Means (record before { sessions = sessions }) (hears k now s) → IsMoment (hears k now s) at → session_at at.session (hears k now s).sessions ≡ Some x → x.connection ≡ Some c → P
 
-pub shown : (naming : Naming) (c : ℕ) (s : State) (command : Command) (k now : ℤ) (before : Held) (sessions : Sessions) (at : Moment) (after : Held) (empty sent : Sent) (result : Result Outcome Memory) → Means before s → IsLiveOn s.sessions c k
-    → Keeps sessions (change_session k (heard_at now) s.sessions) (λ j. ephemerals j s.nodes) → at.session ≡ k → Shows naming c s command k now before sessions at after empty sent result
-    → Answers (hears k now s) (answer naming at c (hears k now s) command) after empty sent result
-shown naming c s command k now before sessions at after empty sent result m live keeps same shows =
+pub shown : (c : ℕ) (s : State) (k now : ℤ) (before : Held) (sessions : Sessions) (at : Moment) (P : Type 0) → Means before s → IsLiveOn s.sessions c k
+    → Keeps sessions (change_session k (heard_at now) s.sessions) (λ j. ephemerals j s.nodes) → at.session ≡ k → Shows c s k now before sessions at P → P
+shown c s k now before sessions at P m live keeps same shows =
     let mid = heard_means before sessions s k now m keeps in
     let there = still_live s k k now live.one live.live in
     shows _ mid (moment_of (hears k now s) _ k (record before { sessions = sessions }) at mid there same)
     (subst (λ (j : ℤ). session_at j (hears k now s).sessions ≡ Some (changed_session k (heard_at now) live.one)) (sym same) there)
     (same_connection k now live.one ∙ live.on)
-
-pub means_after_memory : (s : State) (a : Answer) (h : Held) (before sent : Sent) (e : Memory) → Answers s a h before sent (Err e) → Means h s
-unfolding Answers
-means_after_memory s a h before sent e m = m
 
 pub no_room : false ≡ true → ⊥
 no_room h = cc
@@ -166,10 +159,6 @@ no_room h = cc
 -- there is room in an empty list, and for the reply
 pub room_at_first : (v : Sent) → vec_len v ≡ 0 → 1 ≤ vec_capacity v → HasRoom v
 room_at_first v empty low = omega (arith, empty, low)
-
-pub room_for_reply : (s : State) (a : Answer) (h : Held) (before sent : Sent) (outcome : Outcome) → Answers s a h before sent (Ok outcome) → HasRoom sent
-unfolding Answers
-room_for_reply s a h before sent outcome k = k.1.room
 
 pub the_next : (s : State) (before : Held) (z : ℤ) → Means before s → z ≡ before.last +ℤ pos 1 → z ≡ next_zxid s
 unfolding next_zxid

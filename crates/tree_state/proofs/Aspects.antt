@@ -72,11 +72,6 @@ told_unwatching a p w ws h =
     told_past a p (λ v. not ((v.connection == w.connection) && is_on w.aspect w.path v)) ws
     (λ v k. ap not (ap (λ (b : Bool). (v.connection == w.connection) && b) (on_other a w.aspect p w.path v h k) ∙ never_both (v.connection == w.connection)))
 
-same_aspect-refl : (a : Aspect) → same_aspect a a ≡ true
-unfolding same_aspect
-same_aspect-refl on_data = refl
-same_aspect-refl on_children = refl
-
 same_aspect-sym : (a b : Aspect) → same_aspect a b ≡ false → same_aspect b a ≡ false
 unfolding same_aspect
 same_aspect-sym on_data on_data h = h

@@ -1,12 +1,13 @@
 -- Each end of each change over what is held.
 use Rattle.std.proofs.Common.{◌≡◌, ◌≤◌, ◌<◌, ℕ, ℤ, Bool, true, false, cond, not, List, [], ◌∷◌, ◌++◌, Option, Some, None, Result, Ok, Err, length, refl, sym, ap, subst, ◌∙◌, inl, inr, append-nil, arith, nat_eq, w32, w64, of_z, to_z}
-use Rattle.std.specs.Prelude.{Vec, is_some, ◌+◌, ◌≤ℤ◌, ◌==◌, ◌||◌, pos, negsuc, min, nat_le}
+use Rattle.std.specs.Prelude.{Vec, String, IfSome, is_some, ◌+◌, ◌≤ℤ◌, ◌==◌, ◌||◌, pos, negsuc, min, nat_le}
 use Rattle.std.specs.Global.{Global}
 use Rattle.std.specs.Ordering.{int_eq}
 use Rattle.std.specs.Option.{option_copied}
+use Rattle.std.specs.String.{string_bytes}
 use Rattle.std.specs.Borrow.{Bor}
 use Rattle.std.specs.Int.Signed.{<ℤ-≤ℤ_trans, clash_ℤ}
-use Rattle.std.specs.Result.{IsErrAnd, is_err, OnErr, OnOk}
+use Rattle.std.specs.Result.{IsErrAnd, OnErr}
 use Rattle.std.proofs.lemmas.Result.{err_from_is_err_and}
 use Rattle.std.proofs.lemmas.Bool.{cases_Bool, leb-true, le-leb, eqb-true}
 use Rattle.std.proofs.lemmas.Bool.Decides.{Decides-eqb, leb_tells}
@@ -34,13 +35,14 @@ use Rattle.tree_state.specs.Changes.{Trial, failed, done, Naming, Effect, perfor
 use Rattle.tree_state.specs.Step.{Answer, answer, with_error, told_only}
 use Rattle.tree_state.specs.Sessions.{Keeps, Owning, with_owned, without_owned}
 use Rattle.tree_state.specs.Places.{node_of, kept_stat, IsSmall, IsFound, IsApart, Holds, content_limit, text_limit}
-use Rattle.tree_state.specs.Trees.{Means, Quietly, IsParent, MayCreate, IsMoment, Performs, IsShortContent}
+use Rattle.tree_state.specs.Trees.{Means, Stays, Quietly, IsParent, MayCreate, IsMoment, Performs}
+use Rattle.zk_messages.specs.Short.{IsShortContent}
 use Rattle.tree_state.specs.Watches.{Watching}
 use Rattle.tree_state.proofs.Found.{there_found, there_changed, find_changed-same, children_changed}
 use Rattle.tree_state.proofs.ChildNames.{no_children}
 use Rattle.tree_state.proofs.Readings.{absent, present, count_names, stat_is}
 use Rattle.tree_state.proofs.Rows.{create_missing, create_owned, create_full, create_there, create_done, delete_missing, delete_other, delete_filled, delete_done, set_content_missing, set_content_other, set_content_last, set_content_done, check_missing, check_other, check_done, set_acl_missing, set_acl_other, set_acl_last, set_acl_done}
-use Rattle.tree_state.proofs.Owned.{KeepsOwner, others, same_number, equal_numbers, other_number, number_flips, ephemerals_changed, ephemerals_added-own, ephemerals_added-other, ephemerals_removed, ephemerals_removed-other, owned_undone, keeps_same, at_each, owned_changed, owned_added, owned_removed, given_so}
+use Rattle.tree_state.proofs.Owned.{KeepsOwner, others, same_number, equal_numbers, other_number, number_flips, ephemerals_changed, ephemerals_added-own, ephemerals_added-other, ephemerals_removed, ephemerals_removed-other, keeps_same, at_each, owned_changed, owned_added, owned_removed, given_so}
 
 -- ---- tests
 
@@ -372,11 +374,11 @@ acl_set naming at c s p v h after text n stat m t f o low holds watched same las
 
 -- ---- create
 
--- a session did not come to own one more
-pub owning_failed : (h after : Held) (s : State) → Means h s → ((xs : List Session) (owned : Owning) → Keeps h.sessions xs owned → Keeps after.sessions xs owned) → after.places ≡ h.places → after.watches ≡ h.watches → after.last ≡ h.last
-    → Means after s
-owning_failed h after s m keeps same watched last = record {
-  places = subst (λ (t : Places). Holds t s.nodes) (sym same) m.places;
+-- what was held stays held where the same sessions and the same nodes are kept
+pub held_still : (h after : Held) → ((xs : List Session) (owned : Owning) → Keeps h.sessions xs owned → Keeps after.sessions xs owned) → ((es : List Place) → Holds h.places es → Holds after.places es)
+    → after.watches ≡ h.watches → after.last ≡ h.last → Stays h after
+held_still h after keeps holds watched last s m = record {
+  places = holds s.nodes m.places;
   sessions = keeps s.sessions (λ k. ephemerals k s.nodes) m.sessions;
   owners = m.owners;
   numbers = m.numbers;
@@ -384,14 +386,10 @@ owning_failed h after s m keeps same watched last = record {
   last = last ∙ m.last;
 }
 
--- what holds where there was an error, and where there was none
-pub err_holds : {T E P : Type 0} (r : Result T E) → true ≡ is_err r → OnErr r P → P
-err_holds (Ok x) e h = absurd cc
-err_holds (Err x) e h = h
-
-pub ok_holds : {T E P : Type 0} (r : Result T E) → false ≡ is_err r → OnOk r P → P
-ok_holds (Ok x) e h = h
-ok_holds (Err x) e h = absurd cc
+-- what holds always holds where there was an error
+pub on_err : {T E P : Type 0} (r : Result T E) → P → OnErr r P
+on_err (Ok x) h = tt
+on_err (Err x) h = h
 
 -- where a node is found, one is there
 pub found_so : (es : List Place) (p : Path) (o : Option (Bor code.Node)) (b : Bool) → IsFound es p (option_copied o) → is_some o ≡ b → is_there es p ≡ b
@@ -404,65 +402,32 @@ pub create_exists : (naming : Naming) (at : Moment) (s : State) (p : Path) (n m 
 create_exists naming at s p n m d q e up h outputs o means parent named f there =
     refused_by s _ h outputs node_exists means (create_there naming at s p n m d q e up parent named (found_so s.nodes (m ∷ p) o true f (sym there)))
 
--- the session of a new ephemeral comes to own it, and nothing else changes
-pub record Joins (h mid : Held) (session : ℤ) (text : List ℕ) (ephemeral : Bool) : Type 0 where
-  pub places : mid.places ≡ h.places
+-- the session of a new ephemeral comes to own it, and the places are these
+pub record Joins (h mid : Held) (made : Places) (session : ℤ) (text : List ℕ) (ephemeral : Bool) : Type 0 where
+  pub places : mid.places ≡ made
   pub watches : mid.watches ≡ h.watches
-  pub last : mid.last ≡ h.last
   pub owns : (xs : List Session) (owned : Owning) (p : Path) → Keeps h.sessions xs owned → IsTextOf text p → Keeps mid.sessions xs (cond ephemeral (with_owned session p owned) owned)
 
--- and goes out of its hands again
-pub record Leaves (mid after : Held) (left : Places) (session : ℤ) (text : List ℕ) (ephemeral : Bool) : Type 0 where
-  pub places : after.places ≡ left
-  pub watches : after.watches ≡ mid.watches
-  pub last : after.last ≡ mid.last
-  pub owns : (xs : List Session) (owned : Owning) (p : Path) → Keeps mid.sessions xs owned → IsTextOf text p → Keeps after.sessions xs (cond ephemeral (without_owned session p owned) owned)
+-- a node that is not ephemeral joins no session
+pub no_join : (h mid : Held) (made : Places) (sessions : Sessions) (session : ℤ) (text : List ℕ) (e : Bool) (o : Option (String Global)) → o ≡ None → is_some o ≡ e
+    → ((xs : List Session) (owned : Owning) → Keeps h.sessions xs owned → Keeps sessions xs owned) → mid ≡ record { places = made; sessions = sessions; watches = h.watches; last = h.last } → Joins h mid made session text e
+no_join h mid made sessions session text e o none asked keeps is =
+    let off : false ≡ e = sym (ap is_some none) ∙ asked in
+    subst (λ (x : Held). Joins h x made session text e) (sym is)
+    (subst (Joins h (record { places = made; sessions = sessions; watches = h.watches; last = h.last }) made session text) off (record { places = refl; watches = refl; owns = λ xs owned p kept t. keeps xs owned kept }))
 
-pub no_join : (h mid : Held) (session : ℤ) (text : List ℕ) (e : Bool) → e ≡ false → mid ≡ record { places = h.places; sessions = h.sessions; watches = h.watches; last = h.last } → Joins h mid session text e
-no_join h mid session text e off same = subst (λ (x : Held). Joins h x session text e) (sym same) (subst (Joins h h session text) (sym off) (record { places = refl; watches = refl; last = refl; owns = λ xs owned p keeps t. keeps }))
-
-pub join : (h mid : Held) (j session : ℤ) (text : List ℕ) (e : Bool) (sessions : Sessions) → e ≡ true → j ≡ session → mid ≡ record { places = h.places; sessions = sessions; watches = h.watches; last = h.last }
-    → ((xs : List Session) (owned : Owning) (p : Path) → Keeps h.sessions xs owned → IsTextOf text p → Keeps sessions xs (with_owned j p owned)) → Joins h mid session text e
-join h mid j session text e sessions on same is own =
-    let after : Held = record { places = h.places; sessions = sessions; watches = h.watches; last = h.last } in
-    subst (λ (x : Held). Joins h x session text e) (sym is)
-    (subst (λ (z : ℤ). Joins h after z text e) same (subst (Joins h after j text) (sym on) (record { places = refl; watches = refl; last = refl; owns = own })))
-
-pub leave_none : (mid after : Held) (session : ℤ) (text : List ℕ) (e : Bool) (places : Places) → e ≡ false → after ≡ record { places = places; sessions = mid.sessions; watches = mid.watches; last = mid.last }
-    → Leaves mid after places session text e
-leave_none mid after session text e places off is =
-    let left : Held = record { places = places; sessions = mid.sessions; watches = mid.watches; last = mid.last } in
-    subst (λ (x : Held). Leaves mid x places session text e) (sym is)
-    (subst (Leaves mid left places session text) (sym off) (record { places = refl; watches = refl; last = refl; owns = λ xs owned p keeps t. keeps }))
-
-pub leave : (mid after : Held) (j session : ℤ) (text : List ℕ) (e : Bool) (places : Places) (sessions : Sessions) → e ≡ true → j ≡ session → after ≡ record { places = places; sessions = sessions; watches = mid.watches; last = mid.last }
-    → ((xs : List Session) (owned : Owning) (p : Path) → Keeps mid.sessions xs owned → IsTextOf text p → Keeps sessions xs (without_owned j p owned)) → Leaves mid after places session text e
-leave mid after j session text e places sessions on same is disown =
-    let left : Held = record { places = places; sessions = sessions; watches = mid.watches; last = mid.last } in
-    subst (λ (x : Held). Leaves mid x places session text e) (sym is)
-    (subst (λ (z : ℤ). Leaves mid left places z text e) same (subst (Leaves mid left places j text) (sym on) (record { places = refl; watches = refl; last = refl; owns = disown })))
-
--- a node was not added: all is as it was
-undone_so : (e : Bool) (session k : ℤ) (p : Path) (es : List Place) → is_there es p ≡ false
-    → cond e (without_owned session p (cond e (with_owned session p (λ j. ephemerals j es)) (λ j. ephemerals j es))) (cond e (with_owned session p (λ j. ephemerals j es)) (λ j. ephemerals j es)) k ≡ ephemerals k es
-undone_so true session k p es vacant = owned_undone k session p es vacant
-undone_so false session k p es vacant = refl
-
-pub not_added : (h mid after : Held) (places : Places) (s : State) (session : ℤ) (text : List ℕ) (e : Bool) (p : Path) → Means h s → IsTextOf text p → is_there s.nodes p ≡ false → Joins h mid session text e → Leaves mid after places session text e
-    → ((es : List Place) → Holds mid.places es → Holds places es) → Means after s
-not_added h mid after places s session text e p m t vacant joins leaves holds =
-    let own : Owning = λ k. ephemerals k s.nodes in
-    let both : Owning = cond e (with_owned session p own) own in
-    record {
-      places = subst (λ (u : Places). Holds u s.nodes) (sym leaves.places) (holds s.nodes (subst (λ (u : Places). Holds u s.nodes) (sym joins.places) m.places));
-      sessions = keeps_same after.sessions s.sessions (cond e (without_owned session p both) both) own
-          (at_each s (cond e (without_owned session p both) both) own s.sessions m.numbers (λ k above. undone_so e session k p s.nodes vacant))
-          (leaves.owns s.sessions both p (joins.owns s.sessions own p m.sessions t) t);
-      owners = m.owners;
-      numbers = m.numbers;
-      watches = subst (λ (u : Watches). Watching u s.watches) (sym (leaves.watches ∙ joins.watches)) m.watches;
-      last = leaves.last ∙ joins.last ∙ m.last;
-    }
+-- an ephemeral one comes to its session, for which room was made
+pub join : (h mid : Held) (made : Places) (roomy sessions : Sessions) (j session : ℤ) (text : List ℕ) (e : Bool) (o : Option (String Global)) (own : String Global) → o ≡ Some own → is_some o ≡ e
+    → IfSome o (λ x. string_bytes x ≡ text) → j ≡ session → ((xs : List Session) (owned : Owning) → Keeps h.sessions xs owned → Keeps roomy xs owned)
+    → ((xs : List Session) (owned : Owning) (p : Path) → Keeps roomy xs owned → IsTextOf (string_bytes own) p → Keeps sessions xs (with_owned j p owned))
+    → mid ≡ record { places = made; sessions = sessions; watches = h.watches; last = h.last } → Joins h mid made session text e
+join h mid made roomy sessions j session text e o own some asked told same keeps owns is =
+    let on : true ≡ e = sym (ap is_some some) ∙ asked in
+    let spelled : string_bytes own ≡ text = subst (λ (x : Option (String Global)). IfSome x (λ y. string_bytes y ≡ text)) some told in
+    let after : Held = record { places = made; sessions = sessions; watches = h.watches; last = h.last } in
+    subst (λ (x : Held). Joins h x made session text e) (sym is)
+    (subst (λ (z : ℤ). Joins h after made z text e) same (subst (Joins h after made j text) on
+    (record { places = refl; watches = refl; owns = λ xs owned p kept t. owns xs owned p (keeps xs owned kept) (subst (λ (b : List ℕ). IsTextOf b p) (sym spelled) t) })))
 
 with_creation_keeps : (z : ℤ) → KeepsOwner (with_creation z)
 unfolding with_creation
@@ -496,11 +461,11 @@ unfolding fresh_numbers
 fresh_given s at true mo = mo.given
 fresh_given s at false mo = not_below at.session s.greatest mo.positive mo.given
 
-made_means : (h mid after : Held) (at : Moment) (s : State) (text : List ℕ) (p : Path) (m : List ℕ) (up : Node) (d : Option (List ℕ)) (e : Bool) → Means h s → IsMoment s at → IsTextOf text (m ∷ p) → IsParent s p up → is_there s.nodes (m ∷ p) ≡ false
-    → Joins h mid at.session text e → after.sessions ≡ mid.sessions → Holds after.places (add (m ∷ p) (record { content = d; numbers = fresh_numbers at e }) (change p (with_creation at.zxid) s.nodes))
+made_means : (h mid after : Held) (made : Places) (at : Moment) (s : State) (text : List ℕ) (p : Path) (m : List ℕ) (up : Node) (d : Option (List ℕ)) (e : Bool) → Means h s → IsMoment s at → IsTextOf text (m ∷ p) → IsParent s p up → is_there s.nodes (m ∷ p) ≡ false
+    → Joins h mid made at.session text e → after.sessions ≡ mid.sessions → Holds after.places (add (m ∷ p) (record { content = d; numbers = fresh_numbers at e }) (change p (with_creation at.zxid) s.nodes))
     → Watching after.watches (left_by_creation p m s.watches) → after.last ≡ at.zxid → Means after (created at p m (record { content = d; numbers = fresh_numbers at e }) s).state
 unfolding created with_creation
-made_means h mid after at s text p m up d e means mo t parent vacant joins same holds watched last =
+made_means h mid after made at s text p m up d e means mo t parent vacant joins same holds watched last =
     let own : Owning = λ k. ephemerals k s.nodes in
     let f = with_creation at.zxid in
     let node : Node = record { content = d; numbers = fresh_numbers at e } in
@@ -527,20 +492,21 @@ created_so naming at s p n m d q e up after before sent made parent named vacant
     let node : Node = record { content = d; numbers = fresh_numbers at e } in
     performed s _ (created at p m node s) after before sent (results.Created made) (create_done naming at s p n m d q e up parent named vacant) (ap results.Created spelled) told means
 
-pub create_makes : (naming : Naming) (at : Moment) (s : State) (p : Path) (n m : List ℕ) (d c : Option (List ℕ)) (q e : Bool) (up : Node) (h mid after : Held) (before sent : Vec Output Global) (text made : List ℕ) (o : Option (Bor code.Node))
+pub create_makes : (naming : Naming) (at : Moment) (s : State) (p : Path) (n m : List ℕ) (d c : Option (List ℕ)) (q e : Bool) (up : Node) (h mid after : Held) (put : Places) (before sent : Vec Output Global) (text made : List ℕ) (o : Option (Bor code.Node))
     → Means h s → IsTextOf text (m ∷ p) → IsMoment s at → IsParent s p up → name_for naming p n q up ≡ Some m → IsFound s.nodes (m ∷ p) (option_copied o) → false ≡ is_some o → IsShortContent d → length text ≤ text_limit → c ≡ d → made ≡ text
-    → sent.items ≡ before.items ++ creation_events p m s.watches → Joins h mid at.session text e → after.sessions ≡ mid.sessions
+    → sent.items ≡ before.items ++ creation_events p m s.watches → Joins h mid put at.session text e → after.places ≡ mid.places → after.sessions ≡ mid.sessions
     → ((ws : List Watch) (r : Path) (k : List ℕ) → Watching mid.watches ws → IsTextOf text (k ∷ r) → Watching after.watches (left_by_creation r k ws)) → after.last ≡ at.zxid
-    → ((es : List Place) (k : List ℕ) (r : Path) (x : Node) → Holds mid.places es → IsTextOf text (k ∷ r) → is_there es (k ∷ r) ≡ false → find es r ≡ Some x → x.numbers.creations < greatest_int → size_of c ≤ content_limit → length text ≤ text_limit
-    → Holds after.places (add (k ∷ r) (record { content = c; numbers = fresh_numbers at e }) (change r (with_creation at.zxid) es)))
+    → ((es : List Place) (k : List ℕ) (r : Path) (x : Node) → Holds h.places es → IsTextOf text (k ∷ r) → is_there es (k ∷ r) ≡ false → find es r ≡ Some x → x.numbers.creations < greatest_int → size_of c ≤ content_limit → length text ≤ text_limit
+    → Holds put (add (k ∷ r) (record { content = c; numbers = fresh_numbers at e }) (change r (with_creation at.zxid) es)))
     → Performs s (perform naming at s (create p n d q e)) after before sent (Ok (results.Created made))
-create_makes naming at s p n m d c q e up h mid after before sent text made o means t mo parent named f there short room copy spelled told joins same fired last holds =
+create_makes naming at s p n m d c q e up h mid after put before sent text made o means t mo parent named f there short room copy spelled told joins placed same fired last holds =
     let watched = fired s.watches p m (subst (λ (u : Watches). Watching u s.watches) (sym joins.watches) means.watches) t in
     let vacant = found_so s.nodes (m ∷ p) o false f (sym there) in
     let node : Node = record { content = d; numbers = fresh_numbers at e } in
-    let put : Holds after.places (add (m ∷ p) node (change p (with_creation at.zxid) s.nodes)) =
-    subst (λ (x : Option (List ℕ)). Holds after.places (add (m ∷ p) (record { content = x; numbers = fresh_numbers at e }) (change p (with_creation at.zxid) s.nodes))) copy
-    (holds s.nodes m p up (subst (λ (u : Places). Holds u s.nodes) (sym joins.places) means.places) t vacant parent.there (low_so up.numbers.creations parent.room)
+    let held : Holds put (add (m ∷ p) node (change p (with_creation at.zxid) s.nodes)) =
+    subst (λ (x : Option (List ℕ)). Holds put (add (m ∷ p) (record { content = x; numbers = fresh_numbers at e }) (change p (with_creation at.zxid) s.nodes))) copy
+    (holds s.nodes m p up means.places t vacant parent.there (low_so up.numbers.creations parent.room)
     (subst (λ (x : Option (List ℕ)). size_of x ≤ content_limit) (sym copy) (short_content d short)) room) in
+    let moved = subst (λ (u : Places). Holds u (add (m ∷ p) node (change p (with_creation at.zxid) s.nodes))) (sym (placed ∙ joins.places)) held in
     created_so naming at s p n m d q e up after before sent made parent named vacant (spelled ∙ t.spelled) told
-    (made_means h mid after at s text p m up d e means mo t parent vacant joins same put watched last)
+    (made_means h mid after put at s text p m up d e means mo t parent vacant joins same moved watched last)

@@ -26,12 +26,6 @@ use Rattle.tree_state.proofs.Ended.{IsOwnedBy, owned_here, owned_behind, found_h
 
 -- ---- what is told after others were told
 
-told_first : (b c : Bool) (a : Aspect) (q : Path) (w : Watch) (ws : List Watch) → is_on a q w ≡ b
-    → told a q (cond c (w ∷ ws) ws) ≡ cond c (cons_option (cond b (Some w.connection) None) (told a q ws)) (told a q ws)
-unfolding told connection_if_on
-told_first b true a q w ws h = ap (λ (d : Bool). cons_option (cond d (Some w.connection) None) (told a q ws)) h
-told_first b false a q w ws h = refl
-
 -- of other paths, and of the other aspect, as many are told
 pub told_others : (a b : Aspect) (q r : Path) (ws : List Watch) → ((w : Watch) → is_on a q w ≡ true → is_on b r w ≡ false) → told a q (left b r ws) ≡ told a q ws
 unfolding left is_off told connection_if_on

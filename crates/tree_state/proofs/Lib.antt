@@ -20,6 +20,7 @@ pub mod Readings
 pub mod Owned
 pub mod Changed
 pub mod Alone
+mod RoomLeft
 mod SessionLists
 mod SessionMaps
 mod SessionTies
@@ -28,6 +29,7 @@ mod SessionsGiven
 mod SessionsKept
 mod SessionsMoved
 mod SessionsOwning
+pub mod BelowRoot
 pub mod Serving
 mod Ended
 mod Connected
@@ -54,3 +56,6 @@ pub mod ReadRows
 mod Unwatching
 mod Notices
 mod WatchesSet
+pub mod EveryCommand
+pub mod OneCommand
+pub mod PlainNames

@@ -1,12 +1,11 @@
 -- One operation of a multi is the change that it asks for.
-use Rattle.std.proofs.Common.{◌≡◌, ℕ, ℤ, Bool, List, [], ◌∷◌, Option, None, Result, Vec, refl, sym, ap, subst, ◌∙◌, inl, inr}
+use Rattle.std.proofs.Common.{◌≡◌, ℕ, ℤ, Bool, List, ◌∷◌, Option, None, Result, Vec, refl, sym, ap, subst, ◌∙◌}
 use Rattle.std.specs.Global.{Global}
-use Rattle.zk_path.specs.Paths.{text_of}
 use Rattle.zk_records.specs.declared.create.CreateRequest.{CreateRequest}
 use Rattle.zk_records.specs.declared.node.DeleteRequest.{DeleteRequest}
 use Rattle.zk_records.specs.declared.node.SetContentRequest.{SetContentRequest}
 use Rattle.zk_records.specs.declared.node.CheckRequest.{CheckRequest}
-use Rattle.zk_messages.specs.Refuses.{Rule, RefusesOp, RefusesNode, IsRootText}
+use Rattle.zk_messages.specs.Refuses.{RefusesOp}
 use Rattle.zk_messages.specs.declared.request.Op.{Op}
 use Rattle.zk_messages.specs.declared.request.Op.TheVariants as ops
 use Rattle.zk_messages.specs.declared.reply.OpResult.{OpResult}
@@ -18,7 +17,9 @@ use Rattle.tree_state.specs.Nodes.{Path}
 use Rattle.tree_state.specs.State.{State}
 use Rattle.tree_state.specs.Commands.{Change, IsChange, IsCreate, IsTextOf, create, delete, set_content, check}
 use Rattle.tree_state.specs.Changes.{Naming, perform}
-use Rattle.tree_state.specs.Trees.{Performs, HasShortOpParts, IsShort, IsShortContent}
+use Rattle.tree_state.specs.Trees.{Performs}
+use Rattle.zk_messages.specs.Short.{HasShortOpParts, IsShort, IsShortContent}
+use Rattle.tree_state.proofs.BelowRoot.{below_root}
 
 abbrev Outs : Type 0
 Outs = Vec Output Global
@@ -35,39 +36,27 @@ short_content op r e h = (subst HasShortOpParts e h).1
 
 -- ---- the change of each operation
 
-asks_create : (r : CreateRequest) (c : Change) → IsChange (ops.Create r) c
+pub asks_create : (r : CreateRequest) (c : Change) → IsChange (ops.Create r) c
     → (p : Path) × (n : List ℕ) × (d : Option (List ℕ)) × (q : Bool) × (e : Bool) × IsCreate r p n d q e × (c ≡ create p n d q e)
 unfolding IsChange
 asks_create r (create p n d q e) h = (p, n, d, q, e, h, refl)
 asks_create r c h = absurd h
 
-asks_delete : (r : DeleteRequest) (c : Change) → IsChange (ops.Delete r) c → (p : Path) × IsTextOf r.path p × (c ≡ delete p r.version)
+pub asks_delete : (r : DeleteRequest) (c : Change) → IsChange (ops.Delete r) c → (p : Path) × IsTextOf r.path p × (c ≡ delete p r.version)
 unfolding IsChange
 asks_delete r (delete p v) h = (p, h.0, ap (delete p) (sym h.1))
 asks_delete r c h = absurd h
 
-asks_set_content : (r : SetContentRequest) (c : Change) → IsChange (ops.SetContent r) c → (p : Path) × IsTextOf r.path p × (c ≡ set_content p r.content r.version)
+pub asks_set_content : (r : SetContentRequest) (c : Change) → IsChange (ops.SetContent r) c → (p : Path) × IsTextOf r.path p × (c ≡ set_content p r.content r.version)
 unfolding IsChange
 asks_set_content r (set_content p d v) h =
     (p, h.0, ap (λ (x : ℤ). set_content p d x) (sym h.2) ∙ ap (λ (x : Option (List ℕ)). set_content p x r.version) (sym h.1))
 asks_set_content r c h = absurd h
 
-asks_check : (r : CheckRequest) (c : Change) → IsChange (ops.Check r) c → (p : Path) × IsTextOf r.path p × (c ≡ check p r.version)
+pub asks_check : (r : CheckRequest) (c : Change) → IsChange (ops.Check r) c → (p : Path) × IsTextOf r.path p × (c ≡ check p r.version)
 unfolding IsChange
 asks_check r (check p v) h = (p, h.0, ap (check p) (sym h.1))
 asks_check r c h = absurd h
-
--- what is not refused is not the root
-not_root : (text : List ℕ) → RefusesNode text None → IsRootText text → ⊥
-unfolding Rule
-not_root text (inl h) r = absurd cc
-not_root text (inr (a, inl h)) r = absurd cc
-not_root text (inr (a, inr (b, h))) r = b r
-
-under : (text : List ℕ) (p : Path) → IsTextOf text p → (IsRootText text → ⊥) → (n : List ℕ) × (q : Path) × (p ≡ n ∷ q)
-unfolding text_of
-under text [] t n = absurd (n t.spelled)
-under text (m ∷ q) t n = (m, q, refl)
 
 -- ---- each operation by its row
 
@@ -83,7 +72,7 @@ pub op_delete : (naming : Naming) (at : Moment) (s : State) (after : Held) (o se
     → Performs s (perform naming at s change) after o sent result
 op_delete naming at s after o sent op r change result e f k does =
     let a = asks_delete r change (subst (λ (x : Op). IsChange x change) e k) in
-    let u = under r.path a.0 a.1 (not_root r.path (subst (λ (x : Op). RefusesOp x None) e f)) in
+    let u = below_root r.path a.0 a.1 (subst (λ (x : Op). RefusesOp x None) e f) in
     subst (λ (x : Change). Performs s (perform naming at s x) after o sent result) (sym (a.2 ∙ ap (λ (p : Path). delete p r.version) u.2))
     (does u.0 u.1 (subst (IsTextOf r.path) u.2 a.1))
 

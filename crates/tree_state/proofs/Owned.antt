@@ -6,15 +6,15 @@ use Rattle.std.specs.Ordering.{int_eq}
 use Rattle.std.specs.Cmp.{signed_Decides}
 use Rattle.std.proofs.lemmas.Bool.{cases_Bool, eqb-true}
 use Rattle.std.proofs.lemmas.List.{nil_from_length}
-use Rattle.std.proofs.lemmas.List.Elements.{filter-append, filter_map-append, All-nil, All-cons, All-head, All-tail}
+use Rattle.std.proofs.lemmas.List.Elements.{filter_map-append, All-nil, All-cons, All-head, All-tail}
 use Rattle.tree_state.specs.declared.session.Session as code
 use Rattle.tree_state.specs.declared.session.Sessions.{Sessions}
 use Rattle.tree_state.specs.Nodes.{Path, Node, Place, same_path, find, is_there, changed_at, change, add, is_elsewhere, remove, name_of_child, children, has_children, path_if_owned, ephemerals}
 use Rattle.tree_state.specs.State.{State, Session, Watch}
-use Rattle.tree_state.specs.Sessions.{Owning, session_at_key, OwnTexts, OwnsPaths, Keeps, with_owned, without_owned}
+use Rattle.tree_state.specs.Sessions.{Owning, session_at_key, OwnTexts, OwnsPaths, Keeps}
 use Rattle.tree_state.specs.Places.{IsApart}
 use Rattle.tree_state.specs.Trees.{AreOwned, IsGiven}
-use Rattle.tree_state.proofs.SamePaths.{same_path-true, same_path-refl, same_path-above}
+use Rattle.tree_state.proofs.SamePaths.{same_path-true, same_path-above}
 use Rattle.tree_state.proofs.Found.{found_there, there_node, there_changed, find_changed-same, find_changed-other, children_changed, find_added-same, find_added-other, children_added-other, there_removed-same, find_removed-other, remove_absent}
 
 -- a change that leaves a node with its owner
@@ -104,21 +104,6 @@ ephemerals_removed-other k p (e ∷ es) n apart found far = go (same_path e.path
 -- of a path where no node is, no session has any
 pub none_owned : (k : ℤ) (p : Path) (es : List Place) → is_there es p ≡ false → others p (ephemerals k es) ≡ ephemerals k es
 none_owned k p es h = sym (ephemerals_removed k p es) ∙ ap (ephemerals k) (remove_absent p es h)
-
--- what was made is undone where it goes again
-pub owned_undone : (k j : ℤ) (p : Path) (es : List Place) → is_there es p ≡ false → without_owned j p (with_owned j p (λ i. ephemerals i es)) k ≡ ephemerals k es
-unfolding with_owned without_owned
-owned_undone k j p es absent = go (int_eq k j)
-  where
-    undone : others p (ephemerals k es ++ p ∷ []) ≡ ephemerals k es
-    undone =
-        filter-append (λ q. not (same_path q p)) (ephemerals k es) (p ∷ [])
-        ∙ ap (λ (b : Bool). others p (ephemerals k es) ++ cond (not b) (p ∷ []) []) (same_path-refl p)
-        ∙ append-nil (others p (ephemerals k es)) ∙ none_owned k p es absent
-
-    go : (b : Bool) → cond b (others p (cond b (ephemerals k es ++ p ∷ []) (ephemerals k es))) (cond b (ephemerals k es ++ p ∷ []) (ephemerals k es)) ≡ ephemerals k es
-    go true = undone
-    go false = refl
 
 -- ---- what a session keeps
 

@@ -1,7 +1,6 @@
 -- The command of a request is the one of its row, and is answered as the row is.
-use Rattle.std.proofs.Common.{◌≡◌, ℕ, ℤ, Bool, true, false, List, [], ◌∷◌, ◌++◌, Option, Some, None, Result, Ok, Err, refl, sym, ap, subst, ◌∙◌, inl, inr}
+use Rattle.std.proofs.Common.{◌≡◌, ℕ, ℤ, Bool, true, false, List, [], ◌∷◌, ◌++◌, Option, Some, None, Result, Ok, Err, refl, sym, ap, subst, ◌∙◌}
 use Rattle.std.specs.Prelude.{IfOk, IsErrAnd}
-use Rattle.zk_path.specs.Paths.{text_of}
 use Rattle.jute_core.specs.declared.held.Bytes.{Bytes}
 use Rattle.zk_records.specs.declared.create.CreateRequest.{CreateRequest}
 use Rattle.zk_records.specs.declared.set_watches.SetWatches.{SetWatches}
@@ -11,7 +10,7 @@ use Rattle.zk_records.specs.declared.node.PathOnly.{PathOnly}
 use Rattle.zk_records.specs.declared.node.SetContentRequest.{SetContentRequest}
 use Rattle.zk_records.specs.declared.path_watch.PathWatch.{PathWatch}
 use Rattle.zk_records.specs.declared.set_acl.SetAclRequest.{SetAclRequest}
-use Rattle.zk_messages.specs.Refuses.{Rule, Refuses, RefusesNode, IsRootText}
+use Rattle.zk_messages.specs.Refuses.{Refuses}
 use Rattle.zk_messages.specs.declared.reply.Outcome.{Outcome}
 use Rattle.zk_messages.specs.declared.reply.Outcome.TheVariants as outcomes
 use Rattle.zk_messages.specs.declared.request.Request.{Request}
@@ -26,6 +25,7 @@ use Rattle.tree_state.specs.Changes.{Naming, perform, deleted, no_effects, all_d
 use Rattle.tree_state.specs.Step.{Answer, answer, answer_single, told_only, closed, ended, watches_gone, connection_at}
 use Rattle.tree_state.specs.Trees.{Means, Answers, HasRoom, Tells, IsOther}
 use Rattle.tree_state.proofs.Alone.{Sent, untold, told_answers}
+use Rattle.tree_state.proofs.BelowRoot.{below_root}
 
 -- ---- the command of each request
 
@@ -34,53 +34,53 @@ pub record IsWatchOf (r : PathWatch) (row : Path → Bool → Command) (command 
   pub text : IsTextOf r.path path
   pub is : command ≡ row path r.watch
 
-asks_stat : (r : PathWatch) (command : Command) → Asks (requests.Exists r) command → IsWatchOf r stat_at command
+pub asks_stat : (r : PathWatch) (command : Command) → Asks (requests.Exists r) command → IsWatchOf r stat_at command
 unfolding Asks
 asks_stat r (stat_at p b) h = record { path = p; text = h.0; is = ap (stat_at p) (sym h.1) }
 asks_stat r command h = absurd h
 
-asks_content : (r : PathWatch) (command : Command) → Asks (requests.GetContent r) command → IsWatchOf r get_content command
+pub asks_content : (r : PathWatch) (command : Command) → Asks (requests.GetContent r) command → IsWatchOf r get_content command
 unfolding Asks
 asks_content r (get_content p b) h = record { path = p; text = h.0; is = ap (get_content p) (sym h.1) }
 asks_content r command h = absurd h
 
-asks_names : (r : PathWatch) (command : Command) → Asks (requests.GetChildren r) command → IsWatchOf r (λ p b. get_children p b false) command
+pub asks_names : (r : PathWatch) (command : Command) → Asks (requests.GetChildren r) command → IsWatchOf r (λ p b. get_children p b false) command
 unfolding Asks
 asks_names r (get_children p b stat) h = record { path = p; text = h.0; is = ap (λ (x : Bool). get_children p x stat) (sym h.1) ∙ ap (λ (x : Bool). get_children p r.watch x) h.2 }
 asks_names r command h = absurd h
 
-asks_names_stat : (r : PathWatch) (command : Command) → Asks (requests.GetChildren2 r) command → IsWatchOf r (λ p b. get_children p b true) command
+pub asks_names_stat : (r : PathWatch) (command : Command) → Asks (requests.GetChildren2 r) command → IsWatchOf r (λ p b. get_children p b true) command
 unfolding Asks
 asks_names_stat r (get_children p b stat) h = record { path = p; text = h.0; is = ap (λ (x : Bool). get_children p x stat) (sym h.1) ∙ ap (λ (x : Bool). get_children p r.watch x) h.2 }
 asks_names_stat r command h = absurd h
 
-asks_acl : (r : PathOnly) (command : Command) → Asks (requests.GetAcl r) command → (p : Path) × IsTextOf r.path p × (command ≡ get_acl p)
+pub asks_acl : (r : PathOnly) (command : Command) → Asks (requests.GetAcl r) command → (p : Path) × IsTextOf r.path p × (command ≡ get_acl p)
 unfolding Asks
 asks_acl r (get_acl p) h = (p, h, refl)
 asks_acl r command h = absurd h
 
-asks_sync : (r : PathOnly) (command : Command) → Asks (requests.Sync r) command → (p : Path) × IsTextOf r.path p × (command ≡ sync p)
+pub asks_sync : (r : PathOnly) (command : Command) → Asks (requests.Sync r) command → (p : Path) × IsTextOf r.path p × (command ≡ sync p)
 unfolding Asks
 asks_sync r (sync p) h = (p, h, refl)
 asks_sync r command h = absurd h
 
-asks_set_acl : (r : SetAclRequest) (command : Command) → Asks (requests.SetAcl r) command → (p : Path) × IsTextOf r.path p × (command ≡ set_acl p r.version)
+pub asks_set_acl : (r : SetAclRequest) (command : Command) → Asks (requests.SetAcl r) command → (p : Path) × IsTextOf r.path p × (command ≡ set_acl p r.version)
 unfolding Asks
 asks_set_acl r (set_acl p v) h = (p, h.0, ap (set_acl p) (sym h.1))
 asks_set_acl r command h = absurd h
 
-asks_delete : (r : DeleteRequest) (command : Command) → Asks (requests.Delete r) command → (p : Path) × IsTextOf r.path p × (command ≡ single (delete p r.version))
+pub asks_delete : (r : DeleteRequest) (command : Command) → Asks (requests.Delete r) command → (p : Path) × IsTextOf r.path p × (command ≡ single (delete p r.version))
 unfolding Asks
 asks_delete r (single (delete p v)) h = (p, h.0, ap (λ (x : ℤ). single (delete p x)) (sym h.1))
 asks_delete r command h = absurd h
 
-asks_set_content : (r : SetContentRequest) (command : Command) → Asks (requests.SetContent r) command → (p : Path) × IsTextOf r.path p × (command ≡ single (set_content p r.content r.version))
+pub asks_set_content : (r : SetContentRequest) (command : Command) → Asks (requests.SetContent r) command → (p : Path) × IsTextOf r.path p × (command ≡ single (set_content p r.content r.version))
 unfolding Asks
 asks_set_content r (single (set_content p d v)) h =
     (p, h.0, ap (λ (x : ℤ). single (set_content p d x)) (sym h.2) ∙ ap (λ (x : Option (List ℕ)). single (set_content p x r.version)) (sym h.1))
 asks_set_content r command h = absurd h
 
-asks_ping : (command : Command) → Asks requests.Ping command → command ≡ ping
+pub asks_ping : (command : Command) → Asks requests.Ping command → command ≡ ping
 unfolding Asks
 asks_ping ping h = refl
 asks_ping command h = absurd h
@@ -99,7 +99,7 @@ pub record IsWatches (r : SetWatches) (command : Command) : Type 0 where
   pub child_texts : AreTextsOf r.child_paths childs
   pub is : command ≡ set_watches r.seen contents exist childs
 
-asks_watches : (r : SetWatches) (command : Command) → Asks (requests.SetWatches r) command → IsWatches r command
+pub asks_watches : (r : SetWatches) (command : Command) → Asks (requests.SetWatches r) command → IsWatches r command
 unfolding Asks
 asks_watches r (set_watches seen a b d) h = record {
   contents = a;
@@ -188,24 +188,12 @@ serve_set_watches naming at c s h before sent r command result a t =
     let k = asks_watches r command a in
     subst (Row naming at c s h before sent result) (sym k.is) (t k.contents k.exist k.childs k.content_texts k.exist_texts k.child_texts)
 
--- what is not refused is not the root
-not_root : (text : List ℕ) → RefusesNode text None → IsRootText text → ⊥
-unfolding Rule
-not_root text (inl h) r = absurd cc
-not_root text (inr (a, inl h)) r = absurd cc
-not_root text (inr (a, inr (b, h))) r = b r
-
-under : (text : List ℕ) (p : Path) → IsTextOf text p → (IsRootText text → ⊥) → (n : List ℕ) × (q : Path) × (p ≡ n ∷ q)
-unfolding text_of
-under text [] t n = absurd (n t.spelled)
-under text (m ∷ q) t n = (m, q, refl)
-
 pub serve_delete : (naming : Naming) (at : Moment) (c : ℕ) (s : State) (h : Held) (before sent : Sent) (r : DeleteRequest) (command : Command) (result : Result Outcome Memory) → Refuses (requests.Delete r) None → Asks (requests.Delete r) command
     → ((n : List ℕ) (p : Path) → IsTextOf r.path (n ∷ p) → Answers s (answer_single s (perform naming at s (delete (n ∷ p) r.version))) h before sent result) → Row naming at c s h before sent result command
 unfolding answer Refuses
 serve_delete naming at c s h before sent r command result f a t =
     let k = asks_delete r command a in
-    let u = under r.path k.0 k.1 (not_root r.path f) in
+    let u = below_root r.path k.0 k.1 f in
     subst (Row naming at c s h before sent result) (sym (k.2 ∙ ap (λ (p : Path). single (delete p r.version)) u.2))
     (t u.0 u.1 (subst (IsTextOf r.path) u.2 k.1))
 

@@ -12,3 +12,5 @@ pub mod Noticing
 pub mod Trees
 pub mod OneWatch
 pub mod Multis
+pub mod Plain
+pub mod Laws

@@ -1,9 +1,9 @@
 -- Which sessions two ordered maps keep.
-use Rattle.std.specs.Prelude.{◌≡◌, ◌<ℤ◌, ℕ, ℤ, List, [], ◌∷◌, ◌++◌, map, filter, not, Bool, Some, All, String, if◌then◌else◌}
+use Rattle.std.specs.Prelude.{◌≡◌, ◌<ℤ◌, ℕ, ℤ, List, [], ◌∷◌, ◌++◌, map, filter, not, Bool, Some, All, String, IfSome, ◌<◌, vec_len, vec_capacity, if◌then◌else◌}
 use Rattle.std.specs.BTreeMap.{get}
 use Rattle.std.specs.Global.{Global}
 use Rattle.std.specs.List.{AllZip}
-use Rattle.std.specs.Ordering.{int_eq, nat_cmp}
+use Rattle.std.specs.Ordering.{int_cmp, int_eq, nat_cmp}
 use Rattle.std.specs.Str.{bytes_eq}
 use Rattle.std.specs.String.{string_bytes}
 use Rattle.tree_state.specs.declared.session.Session as code
@@ -52,6 +52,10 @@ pub record Keeps (t : Sessions) (xs : List Session) (owned : Owning) : Type 0 wh
 -- every session has a number below this one
 abbrev pub AreBelow : ℤ → List Session → Type 0
 AreBelow session xs = All (λ x. x.number <ℤ session) xs
+
+-- a live session has room for one more
+abbrev pub HasRoomFor : ℤ → Sessions → Type 0
+HasRoomFor session t = IfSome (get int_cmp t.live session) (λ live. vec_len live.ephemerals < vec_capacity live.ephemerals)
 
 -- the session has made one more
 unfoldable pub with_owned : ℤ → Path → Owning → Owning

@@ -1,12 +1,10 @@
 -- Which state a tree means, and what its calls do to that state.
-use Rattle.std.specs.Prelude.{◌≡◌, ◌≤ℤ◌, ◌<ℤ◌, ◌≤◌, ◌<◌, ◌+◌, ℕ, suc, ℤ, pos, List, [], ◌∷◌, ◌++◌, length, replicate, Bool, true, false, Option, Some, None, Result, Ok, Err, All, IfSome, Vec, vec_len, vec_capacity}
+use Rattle.std.specs.Prelude.{◌≡◌, ◌≤ℤ◌, ◌<ℤ◌, ◌<◌, ◌+◌, ℕ, suc, ℤ, pos, List, [], ◌∷◌, ◌++◌, replicate, Bool, true, false, Option, Some, None, Result, Ok, Err, All, IfErr, Vec, vec_len, vec_capacity}
 use Rattle.std.specs.Global.{Global}
 use Rattle.jute_core.specs.declared.held.Memory.{Memory}
 use Rattle.zk_path.specs.Paths.{IsStem, joined, text_of}
 use Rattle.zk_messages.specs.declared.reply.OpResult.{OpResult}
 use Rattle.zk_messages.specs.declared.reply.Outcome.{Outcome}
-use Rattle.zk_messages.specs.declared.request.Op.{Op}
-use Rattle.zk_messages.specs.declared.request.Op.TheVariants as ops
 use Rattle.zk_messages.specs.declared.request.Request.{Request}
 use Rattle.zk_messages.specs.declared.request.Request.TheVariants as requests
 use Rattle.tree_state.specs.declared.held.Held.{Held}
@@ -74,7 +72,16 @@ unfoldable pub Answers : State → Answer → Held → Vec Output Global → Vec
 Answers s a after before sent (Ok outcome) = (outcome ≡ a.outcome) × AreTold before sent a.events × Means after a.state
 Answers s a after before sent (Err e) = Means after s
 
--- the same of an answer that tells no watch
+-- an outcome leaves room for its reply; without memory what was held stays held
+unfoldable pub LeavesRoom : State → Held → Vec Output Global → Result Outcome Memory → Type 0
+LeavesRoom s after sent (Ok outcome) = HasRoom sent
+LeavesRoom s after sent (Err e) = Means after s
+
+-- a change that is refused tells nothing
+abbrev pub RefusesQuietly : Result OpResult NotDone → Vec Output Global → Vec Output Global → Type 0
+RefusesQuietly result before sent = IfErr result (λ stop. (code : ℤ) → stop ≡ stops.Refused code → sent ≡ before)
+
+-- the outcome and the state of an answer that tells no watch
 unfoldable pub Quietly : State → Answer → Held → Result Outcome Memory → Type 0
 Quietly s a after (Ok outcome) = (outcome ≡ a.outcome) × (a.events ≡ []) × Means after a.state
 Quietly s a after (Err e) = Means after s
@@ -129,41 +136,7 @@ IsNameOf Named p (Some m) = Named (text_of (m ∷ p))
 pub record IsNaming (named : List ℕ → ℕ → List ℕ → Type 0) (naming : Naming) : Type 0 where
   pub each : (n : List ℕ) (p : Path) (i : ℕ) → IsStem (n ∷ p) → IsNameOf (named (joined (n ∷ p)) i) p (naming p n i)
 
--- ---- requests that a tree takes
-
--- each text and buffer has at most 2 ^ 27 bytes; frames are far shorter
-abbrev pub IsShort : List ℕ → Type 0
-IsShort bytes = length bytes ≤ 134217728
-
-abbrev pub IsShortContent : Option (List ℕ) → Type 0
-IsShortContent content = IfSome content IsShort
-
-abbrev pub AreShort : Option (List (List ℕ)) → Type 0
-AreShort texts = IfSome texts (All IsShort)
-
-unfoldable pub HasShortOpParts : Op → Type 0
-HasShortOpParts (ops.Create r) = IsShort r.path × IsShortContent r.content
-HasShortOpParts (ops.Delete r) = IsShort r.path
-HasShortOpParts (ops.SetContent r) = IsShort r.path × IsShortContent r.content
-HasShortOpParts (ops.Check r) = IsShort r.path
-
-unfoldable pub HasShortParts : Request → Type 0
-HasShortParts (requests.Create r) = IsShort r.path × IsShortContent r.content
-HasShortParts (requests.Delete r) = IsShort r.path
-HasShortParts (requests.Exists r) = IsShort r.path
-HasShortParts (requests.GetContent r) = IsShort r.path
-HasShortParts (requests.SetContent r) = IsShort r.path × IsShortContent r.content
-HasShortParts (requests.GetAcl r) = IsShort r.path
-HasShortParts (requests.SetAcl r) = IsShort r.path
-HasShortParts (requests.GetChildren r) = IsShort r.path
-HasShortParts (requests.GetChildren2 r) = IsShort r.path
-HasShortParts (requests.Sync r) = IsShort r.path
-HasShortParts requests.Ping = Unit {0}
-HasShortParts (requests.Multi list) = All HasShortOpParts list
-HasShortParts (requests.SetWatches r) = AreShort r.content_paths × AreShort r.exist_paths × AreShort r.child_paths
-HasShortParts (requests.Auth body) = Unit {0}
-HasShortParts requests.Close = Unit {0}
-HasShortParts (requests.Unknown kind body) = Unit {0}
+-- ---- rows
 
 -- a request other than create and multi
 unfoldable pub IsOther : Request → Type 0

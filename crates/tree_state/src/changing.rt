@@ -1,6 +1,6 @@
 //! The changes of one node.
 
-ghost use Rattle.std.specs.Prelude.{◌≡◌, ◌≤◌, ◌<◌, ℕ, List, ◌∷◌, length, Bool, false, Ok, Some, IfOk, OnOk, Vec};
+ghost use Rattle.std.specs.Prelude.{◌≡◌, ◌≤◌, ◌<◌, ℕ, List, ◌∷◌, length, Bool, false, Ok, Some, IfOk, OnOk, OnErr, Vec};
 ghost use Rattle.std.specs.Global.{Global as G};
 ghost use Rattle.tree_state.specs.declared.message.Output.{Output as PlainOutput};
 ghost use Rattle.tree_state.specs.Commands.{IsTextOf, set_acl, create, delete, set_content, check};
@@ -9,7 +9,8 @@ ghost use Rattle.tree_state.specs.State.{State};
 ghost use Rattle.tree_state.specs.Changes.{Naming, perform, name_for, is_other_version, deleted};
 ghost use Rattle.tree_state.specs.Step.{answer};
 ghost use Rattle.tree_state.specs.Places.{text_limit};
-ghost use Rattle.tree_state.specs.Trees.{Means, Quietly, Performs, MayCreate, IsParent, IsMoment, HasRoom, IsShortContent};
+ghost use Rattle.tree_state.specs.Trees.{Means, Stays, Quietly, Performs, MayCreate, IsParent, IsMoment, HasRoom, RefusesQuietly};
+ghost use Rattle.zk_messages.specs.Short.{IsShortContent};
 
 use crate::held::{Held, NotDone};
 use crate::message::Output;
@@ -68,6 +69,8 @@ impl Held {
             → IsMoment s at.now → IsParent s p up → name_for naming p n sequential up ≡ Some m
             → Performs s (perform naming at.now s (create p n content.now sequential ephemeral)) self.new outputs.old outputs.new result }
         ensures room { OnOk result (HasRoom outputs.new) }
+        ensures kept { OnErr result (Stays self.old self.new) }
+        ensures quiet { RefusesQuietly result outputs.old outputs.new }
     {
         if self.places.find(path).is_some() {
             return Err(NotDone::Refused { code: NODE_EXISTS });
@@ -75,15 +78,10 @@ impl Held {
         let made = Text::copy_of(alloc, path)?;
         let content = copied(alloc, content)?;
         self.watches.tell_created(alloc, path, outputs)?;
-        if ephemeral {
-            self.sessions.own(alloc, at.session, path)?;
-        }
-        let added = self.places.add(alloc, path, content, at, ephemeral);
-        if added.is_err() {
-            if ephemeral {
-                self.sessions.disown(at.session, path);
-            }
-            return Err(NotDone::Memory);
+        let own = self.sessions.room_for(alloc, at.session, path, ephemeral)?;
+        self.places.add(alloc, path, content, at, ephemeral)?;
+        if let Some(text) = own {
+            self.sessions.own(at.session, text);
         }
         self.watches.created(path);
         self.last = at.zxid;

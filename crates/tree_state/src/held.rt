@@ -1,6 +1,6 @@
 //! What a tree holds, and the rows of the machine over it but those of create and multi.
 
-ghost use Rattle.std.specs.Prelude.{◌≡◌, ◌≤◌, ℕ, ℤ, Err, Some, None, IfOk, OnOk, Vec};
+ghost use Rattle.std.specs.Prelude.{◌≡◌, ◌≤◌, ℕ, ℤ, Err, Some, None, IfOk, OnOk, OnErr, Vec};
 ghost use Rattle.std.specs.Global.{Global as G};
 ghost use Rattle.tree_state.specs.Commands.{Command, Asks};
 ghost use Rattle.tree_state.specs.Nodes.{greatest_int};
@@ -9,7 +9,8 @@ ghost use Rattle.tree_state.specs.Changes.{Naming, Trial, Effect};
 ghost use Rattle.tree_state.specs.Step.{answer, answer_single, outcome_of};
 ghost use Rattle.tree_state.specs.declared.held.Held.{Held as PlainHeld};
 ghost use Rattle.tree_state.specs.declared.message.Output.{Output as PlainOutput};
-ghost use Rattle.tree_state.specs.Trees.{Means, Answers, Performs, IsMoment, HasRoom, HasShortParts, IsOther};
+ghost use Rattle.tree_state.specs.Trees.{Means, Answers, LeavesRoom, RefusesQuietly, Performs, IsMoment, HasRoom, IsOther};
+ghost use Rattle.zk_messages.specs.Short.{HasShortParts};
 ghost use Rattle.zk_messages.specs.Refuses.{Refuses};
 
 use crate::message::Output;
@@ -112,8 +113,10 @@ impl Held {
 
 // The outcome of a change that is asked for alone.
 pub(crate) fn alone(change: Result<OpResult, NotDone>) -> Result<Outcome, Memory>
-    ensures { (s : State) (t : Trial ℤ Effect) (held : PlainHeld) (before sent : Vec PlainOutput G) → HasRoom before → OnOk change (HasRoom sent)
+    ensures answers { (s : State) (t : Trial ℤ Effect) (held : PlainHeld) (before sent : Vec PlainOutput G) → HasRoom before → OnOk change (HasRoom sent)
         → Performs s t held before sent change → Answers s (answer_single s t) held before sent result }
+    ensures kept { (s : State) (held : PlainHeld) (before sent : Vec PlainOutput G) → HasRoom before → OnOk change (HasRoom sent) → OnErr change (Means held s)
+        → RefusesQuietly change before sent → LeavesRoom s held sent result }
 {
     match change {
         Ok(result) => Ok(outcome(result)),
@@ -123,8 +126,10 @@ pub(crate) fn alone(change: Result<OpResult, NotDone>) -> Result<Outcome, Memory
 
 // The outcome of a change that was not done.
 fn stopped(stop: NotDone) -> Result<Outcome, Memory>
-    ensures { (s : State) (t : Trial ℤ Effect) (held : PlainHeld) (before sent : Vec PlainOutput G) → HasRoom before
+    ensures answers { (s : State) (t : Trial ℤ Effect) (held : PlainHeld) (before sent : Vec PlainOutput G) → HasRoom before
         → Performs s t held before sent (Err stop) → Answers s (answer_single s t) held before sent result }
+    ensures kept { (s : State) (held : PlainHeld) (before sent : Vec PlainOutput G) → HasRoom before → Means held s → RefusesQuietly (Err stop) before sent
+        → LeavesRoom s held sent result }
 {
     match stop {
         NotDone::Refused { code } => Ok(Outcome::Error { code }),

@@ -13,6 +13,9 @@
 //! [`Tree::apply`] first, then `serve` in `held.rt`, `create` in `changing.rt`, `add` in `places.rt`, and `fire` in `watchers.rt`.
 #![tactic(auto)]
 
+ghost use Rattle.tree_state.specs.Laws.{HasPlainNames, IsOneCommand};
+ghost use Rattle.zk_messages.specs.declared.request.Request.{Request};
+
 mod changing;
 mod connecting;
 mod ending;
@@ -35,3 +38,13 @@ mod watches;
 
 pub use message::{Message, Output, Outputs};
 pub use tree::Tree;
+
+/// The law that a request, which is refused or is not, is exactly one command: of each request there is a step to speak of.
+pub fn one_command()
+    ensures { (r : Request) → IsOneCommand r }
+{}
+
+/// The law that the names that [`zk_path::PlainNumberer`] gives are a naming.
+pub fn plain_names()
+    ensures { HasPlainNames }
+{}

@@ -9,7 +9,8 @@ ghost use Rattle.tree_state.specs.State.{State};
 ghost use Rattle.tree_state.specs.Changes.{Naming, perform, perform_all};
 ghost use Rattle.tree_state.specs.Multis.{stop_of, PerformsNext};
 ghost use Rattle.tree_state.specs.declared.multi.Stop.TheVariants.{Memory as NoMemory};
-ghost use Rattle.tree_state.specs.Trees.{Means, Stays, Performs, PerformsAll, IsMoment, IsNaming, HasShortOpParts, failed_codes};
+ghost use Rattle.tree_state.specs.Trees.{Means, Stays, Performs, PerformsAll, IsMoment, IsNaming, failed_codes};
+ghost use Rattle.zk_messages.specs.Short.{HasShortOpParts};
 
 use crate::held::{Held, NotDone};
 use crate::message::Output;

@@ -1,13 +1,14 @@
 //! The row of create, which asks a numberer for the names of sequential nodes.
 
-ghost use Rattle.std.specs.Prelude.{◌≡◌, ◌<◌, ◌≤◌, ◌↔◌, ℕ, List, length, Bool, Option, IfOk, IfSome, IsTrue, OnOk};
+ghost use Rattle.std.specs.Prelude.{◌≡◌, ◌<◌, ◌≤◌, ◌↔◌, ℕ, List, length, Bool, Option, IfOk, IfSome, IsTrue, OnOk, OnErr};
 ghost use Rattle.zk_messages.specs.Refuses.{IsSequential};
 ghost use Rattle.tree_state.specs.Commands.{IsCreate, IsEphemeral, create};
 ghost use Rattle.tree_state.specs.Nodes.{Path, greatest_int};
 ghost use Rattle.tree_state.specs.State.{State};
 ghost use Rattle.tree_state.specs.Changes.{Naming, perform};
 ghost use Rattle.tree_state.specs.Places.{text_limit};
-ghost use Rattle.tree_state.specs.Trees.{Means, Performs, HasRoom, IsMoment, IsNaming, IsNamedTo, name_at, IsShort, IsShortContent};
+ghost use Rattle.tree_state.specs.Trees.{Means, Stays, Performs, HasRoom, RefusesQuietly, IsMoment, IsNaming, IsNamedTo, name_at};
+ghost use Rattle.zk_messages.specs.Short.{IsShort, IsShortContent};
 
 use crate::held::{Held, NotDone};
 use crate::message::Output;
@@ -37,6 +38,8 @@ impl Held {
             → IsNaming (N.named numberer.old) naming → IsCreate asked.now p n content sequential ephemeral
             → Performs s (perform naming at.now s (create p n content sequential ephemeral)) self.new outputs.old outputs.new result }
         ensures room { OnOk result (HasRoom outputs.new) }
+        ensures kept { OnErr result (Stays self.old self.new) }
+        ensures quiet { RefusesQuietly result outputs.old outputs.new }
         ensures names { (stem : List ℕ) (number : ℕ) (text : List ℕ) → N.named numberer.new stem number text ↔ N.named numberer.old stem number text }
     {
         let (parent, _) = parts(asked.path.as_str());

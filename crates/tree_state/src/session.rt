@@ -1,6 +1,6 @@
 //! The live sessions and their connections.
 
-ghost use Rattle.std.specs.Prelude.{◌≡◌, ◌<ℤ◌, ℕ, ℤ, pos, List, [], ◌∷◌, ◌++◌, Bool, true, false, Some, None, is_some, map, filter, IfOk, IfErr, IsSome, OnOk, OnErr};
+ghost use Rattle.std.specs.Prelude.{◌≡◌, ◌<ℤ◌, ℕ, ℤ, pos, List, [], ◌∷◌, ◌++◌, Bool, true, false, Some, None, is_some, map, filter, IfOk, IfErr, IfSome, IsSome, OnOk, OnErr};
 ghost use Rattle.std.specs.BTreeMap.{Updates, get};
 ghost use Rattle.std.specs.Ordering.{nat_cmp};
 ghost use Rattle.std.specs.String.{string_bytes};
@@ -9,7 +9,7 @@ ghost use Rattle.tree_state.specs.Commands.{IsTextOf};
 ghost use Rattle.tree_state.specs.Nodes.{Path};
 ghost use Rattle.tree_state.specs.State.{Session as PlainSession, session_of, session_at, change_session, heard_at, without_session, without_connection};
 ghost use Rattle.tree_state.specs.Step.{connection_at, given_to, is_password_of, no_session as nothing_given, with_session, with_moved};
-ghost use Rattle.tree_state.specs.Sessions.{Keeps, AreBelow, IsLiveOn, Owning, session_at_key, with_owned, without_owned, is_other_text, OwnTexts, IsCopy};
+ghost use Rattle.tree_state.specs.Sessions.{Keeps, AreBelow, IsLiveOn, Owning, session_at_key, with_owned, without_owned, is_other_text, OwnTexts, HasRoomFor, IsCopy};
 
 use jute_core::Memory;
 use std::alloc::Global;
@@ -189,17 +189,39 @@ impl Sessions {
         }
     }
 
-    /// A session makes an ephemeral node. Without memory all is as it was.
-    pub(crate) fn own(&mut self, alloc: Global, session: i64, path: &str) -> Result<(), Memory>
-        ensures ok { OnOk result ((xs : List PlainSession) (owned : Owning) (p : Path) → Keeps self.old xs owned → IsTextOf path.now p
-            → Keeps self.new xs (with_owned session p owned)) }
-        ensures err { OnErr result ((xs : List PlainSession) (owned : Owning) → Keeps self.old xs owned → Keeps self.new xs owned) }
+    /// Where a node is ephemeral, makes room for it among those of its session, and a text for its path. With or without memory
+    /// the same is kept.
+    pub(crate) fn room_for(
+        &mut self,
+        alloc: Global,
+        session: i64,
+        path: &str,
+        ephemeral: bool,
+    ) -> Result<Option<String>, Memory>
+        ensures kept { (xs : List PlainSession) (owned : Owning) → Keeps self.old xs owned → Keeps self.new xs owned }
+        ensures asked { IfOk result (λ own. is_some own ≡ ephemeral) }
+        ensures text { IfOk result (λ own. IfSome own (λ text. string_bytes text ≡ path.now)) }
+        ensures room { IfOk result (λ own. IfSome own (λ _. HasRoomFor session self.new)) }
     {
-        let path = path.to_string(alloc)?;
-        if let Some(live) = self.live.get_mut(&session) {
-            live.ephemerals.push(path)?;
+        if !ephemeral {
+            return Ok(None);
         }
-        Ok(())
+        let text = path.to_string(alloc)?;
+        if let Some(live) = self.live.get_mut(&session) {
+            live.ephemerals.reserve(1)?;
+        }
+        Ok(Some(text))
+    }
+
+    /// A session for which there is room makes an ephemeral node. Takes no memory.
+    pub(crate) fn own(&mut self, session: i64, path: String)
+        requires room { HasRoomFor session self.old }
+        ensures { (xs : List PlainSession) (owned : Owning) (p : Path) → Keeps self.old xs owned → IsTextOf (string_bytes path) p
+            → Keeps self.new xs (with_owned session p owned) }
+    {
+        if let Some(live) = self.live.get_mut(&session) {
+            live.ephemerals.push_reserved(path);
+        }
     }
 
     /// An ephemeral node of the session goes. The cost grows with the number of its ephemerals. Takes no memory.

@@ -5,7 +5,7 @@ mod multis;
 mod watching;
 
 ghost use Rattle.std.specs.Prelude.{◌≤ℤ◌, pos, All, IfOk, IfSome};
-ghost use Rattle.tree_state.specs.Trees.{AreShort, HasShortOpParts, HasShortParts, IsShort, IsShortContent};
+ghost use Rattle.zk_messages.specs.Short.{AreShort, HasShortOpParts, HasShortParts, IsShort, IsShortContent};
 
 use super::*;
 use jute_core::{Bytes, Text, Texts};
@@ -151,7 +151,7 @@ fn set_acl(alloc: Global, path: &str, version: i32) -> Result<SetAclRequest, Fai
     })
 }
 
-#[tactic(auto, unfolding(crate::specs::Trees::HasShortParts))]
+#[tactic(auto, unfolding(zk_messages::specs::Short::HasShortParts))]
 fn request_of(alloc: Global, ask: Ask) -> Result<Request, Fail>
     ensures short { IfOk result HasShortParts }
 {
@@ -207,7 +207,7 @@ fn ops(alloc: Global, parts: [Part; 3]) -> Result<Ops, Fail>
     Ok(Ops::of(ops))
 }
 
-#[tactic(auto, unfolding(crate::specs::Trees::HasShortOpParts))]
+#[tactic(auto, unfolding(zk_messages::specs::Short::HasShortOpParts))]
 fn op(alloc: Global, part: Part) -> Result<Option<Op>, Fail>
     ensures { IfOk result (λ op. IfSome op HasShortOpParts) }
 {

@@ -1,6 +1,6 @@
 //! The tree: the machine over what is held, with a numberer.
 
-ghost use Rattle.std.specs.Prelude.{◌≡◌, ◌<ℤ◌, ◌≤ℤ◌, ◌↔◌, ◌-◌, ◌^◌, ℕ, List, [], pos, Some, None, All, IfOk, OnErr, unsigned_abs};
+ghost use Rattle.std.specs.Prelude.{◌≡◌, ◌<ℤ◌, ◌≤ℤ◌, ◌↔◌, ◌-◌, ◌^◌, ℕ, List, [], pos, Some, None, All, IfOk, OnOk, OnErr, unsigned_abs};
 ghost use Rattle.std.specs.List.{AllZip};
 ghost use Rattle.std.specs.Option.{option_map};
 ghost use Rattle.zk_messages.specs.Refuses.{RefusesOp};
@@ -9,7 +9,8 @@ ghost use Rattle.tree_state.specs.Nodes.{Path, find, child_names, stat_of};
 ghost use Rattle.tree_state.specs.State.{State, Session as PlainSession, start_at, session_of, session_at};
 ghost use Rattle.tree_state.specs.Changes.{Naming};
 ghost use Rattle.tree_state.specs.Step.{connects, asks, loses, expires, given_to, answer};
-ghost use Rattle.tree_state.specs.Trees.{Means, Stays, Does, Answers, CanConnect, HasRoom, IsMoment, IsNaming, HasShortOpParts, HasShortParts};
+ghost use Rattle.tree_state.specs.Trees.{Means, Stays, Does, Answers, LeavesRoom, CanConnect, HasRoom, IsMoment, IsNaming};
+ghost use Rattle.zk_messages.specs.Short.{HasShortOpParts, HasShortParts};
 
 use crate::events::make_room;
 use crate::held::{Held, alone};
@@ -91,8 +92,7 @@ impl<N: Numberer + Drop> Tree<N> {
         requires short { HasShortParts request.now }
         ensures step { IfOk result (λ outputs. (naming : Naming) (s : State) (command : Command) → Means self.old.held s → IsNaming (N.named self.old.numberer) naming
             → IsCommand request.now command → Does naming s (asks connection xid command now) self.new.held outputs) }
-        ensures memory { OnErr result ((naming : Naming) (s : State) (command : Command) → Means self.old.held s → IsNaming (N.named self.old.numberer) naming
-            → IsCommand request.now command → Means self.new.held s) }
+        ensures memory { OnErr result (Stays self.old.held self.new.held) }
         ensures names { (stem : List ℕ) (number : ℕ) (text : List ℕ) → N.named self.new.numberer stem number text ↔ N.named self.old.numberer stem number text }
     {
         let Some(session) = self.held.sessions.session_of(connection) else {
@@ -135,6 +135,8 @@ impl<N: Numberer + Drop> Tree<N> {
         ensures answers { (naming : Naming) (s : State) (x : PlainSession) (command : Command) → Means self.old.held s → IsMoment s at.now → session_at at.now.session s.sessions ≡ Some x
             → x.connection ≡ Some connection → HasRoom outputs.old → IsNaming (N.named self.old.numberer) naming → IsCommand request.now command
             → Answers s (answer naming at.now connection s command) self.new.held outputs.old outputs.new result }
+        ensures kept { (s : State) (x : PlainSession) → Means self.old.held s → IsMoment s at.now → session_at at.now.session s.sessions ≡ Some x
+            → x.connection ≡ Some connection → HasRoom outputs.old → LeavesRoom s self.new.held outputs.new result }
         ensures names { (stem : List ℕ) (number : ℕ) (text : List ℕ) → N.named self.new.numberer stem number text ↔ N.named self.old.numberer stem number text }
     {
         if let Some(code) = refusal_of(request) {
@@ -164,6 +166,8 @@ impl<N: Numberer + Drop> Tree<N> {
         ensures answers { (naming : Naming) (c : ℕ) (s : State) (changes : List Change) → Means self.old.held s → IsMoment s at.now → HasRoom outputs.old
             → IsNaming (N.named self.old.numberer) naming → All (λ op. RefusesOp op None) ops.now → AllZip IsChange ops.now changes
             → Answers s (answer naming at.now c s (multi changes)) self.new.held outputs.old outputs.new result }
+        ensures room { OnOk result (HasRoom outputs.old → HasRoom outputs.new) }
+        ensures memory { OnErr result (self.new.held ≡ self.old.held) }
         ensures names { (stem : List ℕ) (number : ℕ) (text : List ℕ) → N.named self.new.numberer stem number text ↔ N.named self.old.numberer stem number text }
     {
         let mut trial = self.held.copy(alloc)?;

@@ -16,7 +16,7 @@ use Rattle.tree_state.specs.declared.message.Message.{Message}
 use Rattle.tree_state.specs.State.{State, start_at, start, session_of, has_connection}
 use Rattle.tree_state.specs.Commands.{Command, IsCommand, Asks as Commands, stat_at, ping, close}
 use Rattle.tree_state.specs.Step.{Act, asks, Next, clamped, given_to, step}
-use Rattle.world_core.specs.Plain.{plain}
+use Rattle.tree_state.specs.Plain.{plain}
 use Rattle.world_core.specs.Acts.{IsAsked, AreActs}
 use Rattle.world_core.specs.Out.{outputs, to_connection, out}
 use Rattle.world_core.specs.Order.{HasSession, MayCome, zxid_after, LegalFrom, HasNoConnect, ConnectsOnce, Legal}

@@ -10,7 +10,7 @@ use Rattle.tree_state.specs.Nodes.{find, same_path, children, name_of_child, nam
 use Rattle.tree_state.specs.State.{State, start_at, start, first_numbers, next_zxid, watching_if, session_of, session_at, has_connection, is_numbered, change_session, changed_session, heard_at, without_session, is_other_session, left_of_others}
 use Rattle.tree_state.specs.Changes.{need, no_effects, all_deleted}
 use Rattle.tree_state.specs.Step.{Next, step, taken, hears, replied, answer, or_error, told_only, with_watch, closed, clamped, connected, connected_at, with_session, answer_connect}
-use Rattle.world_core.specs.Plain.{plain}
+use Rattle.tree_state.specs.Plain.{plain}
 use Rattle.world_core.specs.Headline.{first_password}
 use Rattle.world_core.specs.FirstOrder.{act_of, message_of}
 

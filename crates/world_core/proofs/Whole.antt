@@ -14,7 +14,7 @@ use Rattle.world_core.specs.declared.form.Stage.TheVariants.{Fresh, Closed}
 use Rattle.zk_messages.specs.Items.{IsItem}
 use Rattle.zk_messages.specs.Sent.{client_limit, Items, is_first, HasNoFrame}
 use Rattle.world_core.specs.Messages.{SpellsMessage, Messages}
-use Rattle.world_core.specs.Plain.{plain}
+use Rattle.tree_state.specs.Plain.{plain}
 use Rattle.world_core.specs.Order.{Legal}
 use Rattle.world_core.specs.Fill.{fill, sent_by_first}
 use Rattle.world_core.specs.Veiled.{VeilsOrder}

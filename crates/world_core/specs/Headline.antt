@@ -10,7 +10,7 @@ use Rattle.zk_messages.specs.declared.request.Item.TheVariants.{Requests}
 use Rattle.zk_messages.specs.declared.request.Request.TheVariants.{Close}
 use Rattle.zk_messages.specs.Sent.{Items, Sent}
 use Rattle.world_core.specs.Messages.{Messages}
-use Rattle.world_core.specs.Plain.{plain}
+use Rattle.tree_state.specs.Plain.{plain}
 use Rattle.world_core.specs.Out.{out}
 use Rattle.world_core.specs.Order.{Legal}
 use Rattle.world_core.specs.Fill.{fill, sent_by_first}

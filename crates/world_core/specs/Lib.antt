@@ -1,5 +1,4 @@
 pub mod Messages
-pub mod Plain
 pub mod Acts
 pub mod Out
 pub mod Order

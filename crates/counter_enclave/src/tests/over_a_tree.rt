@@ -1,7 +1,7 @@
 //! A tree of sealed names, whose sequential nodes the enclave numbers.
 
 ghost use Rattle.std.specs.Prelude.{IfOk};
-ghost use Rattle.tree_state.specs.Trees.{HasShortParts};
+ghost use Rattle.zk_messages.specs.Short.{HasShortParts};
 
 use super::{NAMES, keys};
 use crate::CounterEnclave;
@@ -38,7 +38,7 @@ fn opened(alloc: Global) -> Result<Sealed, Fail> {
 }
 
 // create of a sequential node that stays.
-#[tactic(auto, unfolding(tree_state::specs::Trees::HasShortParts))]
+#[tactic(auto, unfolding(zk_messages::specs::Short::HasShortParts))]
 fn sequential(alloc: Global, stem: &str) -> Result<Request, Fail>
     ensures short { IfOk result HasShortParts }
 {

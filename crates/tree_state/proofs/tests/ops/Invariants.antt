@@ -1,5 +1,5 @@
 use Rattle.std.specs.Prelude.{All}
-use Rattle.tree_state.specs.Trees.{HasShortOpParts}
+use Rattle.zk_messages.specs.Short.{HasShortOpParts}
 use Rattle.tree_state.proofs.tests.ops.Given as goal
 
 abbrev pub invariant-loop-part : goal.invariant-loop-part

@@ -2,7 +2,7 @@ use Rattle.std.proofs.Common.{rules, w32, inl, inr}
 use Rattle.std.specs.Int.RustNames.{FitsSigned}
 use Rattle.std.proofs.lemmas.Int.{to_z-of_z}
 use Rattle.tree_state.specs.Commands.{get_acl}
-use Rattle.tree_state.specs.Trees.{HasShortParts}
+use Rattle.zk_messages.specs.Short.{HasShortParts}
 use Rattle.tree_state.proofs.Alone.{quiet_answers}
 use Rattle.tree_state.proofs.Readings.{lent}
 use Rattle.tree_state.proofs.Serving.{out_of_memory, told_row, serve_stat, serve_content, serve_acl, serve_names, serve_names_stat, serve_sync, serve_set_acl, serve_delete, serve_set_content, serve_set_watches, serve_ping, serve_close, synced, not_create, not_multi, not_auth, not_unknown}
@@ -52,12 +52,12 @@ pub returns-in-Delete : goal.returns-in-Delete
 returns-in-Delete c = λ naming s x command m im live on room ot rf a.
     let f : FitsSigned w32 c.in-Delete.asked.version = search rules in
     serve_delete naming c.args.at.now c.args.connection s c.delete.new.self c.args.outputs.now _ c.in-Delete.asked command _ (rw (c.in-Delete.is) at rf) (rw (c.in-Delete.is) at a)
-    (λ n p t. c.alone.ensures s _ _ c.args.outputs.now _ room c.delete.ensures.room (simp to_z-of_z at (c.delete.ensures.performs naming s n p m (lent _ _ _ c.as_str-in-Delete.ensures t) im)))
+    (λ n p t. c.alone.ensures.answers s _ _ c.args.outputs.now _ room c.delete.ensures.room (simp to_z-of_z at (c.delete.ensures.performs naming s n p m (lent _ _ _ c.as_str-in-Delete.ensures t) im)))
 
 pub returns-in-SetContent : goal.returns-in-SetContent
 returns-in-SetContent c = λ naming s x command m im live on room ot rf a.
     serve_set_content naming c.args.at.now c.args.connection s c.set_content.new.self c.args.outputs.now _ c.in-SetContent.asked command _ (rw (c.in-SetContent.is) at a)
-    (λ p t. c.alone-in-SetContent.ensures s _ _ c.args.outputs.now _ room c.set_content.ensures.room (c.set_content.ensures.performs naming s p m t im))
+    (λ p t. c.alone-in-SetContent.ensures.answers s _ _ c.args.outputs.now _ room c.set_content.ensures.room (c.set_content.ensures.performs naming s p m t im))
 
 pub returns-in-SetWatches : goal.returns-in-SetWatches
 returns-in-SetWatches c = λ naming s x command m im live on room ot rf a.

@@ -1,8 +1,11 @@
-use Rattle.std.proofs.Common.{◌≡◌, ℕ, ℤ, List, Option, Some, None, Ok, Err, refl, sym, ◌∙◌, rules, w32, w64, FitsSigned}
+use Rattle.std.proofs.Common.{◌≡◌, ℕ, ℤ, List, Option, Some, None, refl, sym, ◌∙◌, rules, w32, w64, FitsSigned}
 use Rattle.std.proofs.lemmas.Int.{to_z-of_z}
 use Rattle.tree_state.specs.Nodes.{ephemerals}
 use Rattle.tree_state.specs.State.{Session, session_of}
-use Rattle.tree_state.proofs.Applied.{unheard_means, no_answer, the_moment, the_next, heard_keeps, applied, shown, means_after_memory, no_room, room_for_reply, room_at_first, next_last}
+use Rattle.tree_state.specs.Step.{hears}
+use Rattle.tree_state.specs.Trees.{HasRoom, Means}
+use Rattle.tree_state.proofs.Applied.{unheard_means, no_answer, the_moment, the_next, heard_keeps, applied, shown, no_room, room_at_first, next_last}
+use Rattle.tree_state.proofs.RoomLeft.{room_left, held_left}
 use Rattle.tree_state.proofs.CountedChildren.{on_err}
 use Rattle.tree_state.proofs.tree.Tree.apply.Goals as goal
 
@@ -29,27 +32,25 @@ returns-in_ok-push-in-Ok-clause-step g c = λ naming s command m nm a.
     let same = to_z-of_z w64 c.in-Some.session e in
     let is = the_moment _ _ _ _ (the_next s c.args.self.now.held _ m next) (to_z-of_z w64 c.args.now c.ranges.now) same in
     applied naming s c.args.connection c.args.xid c.args.now c.in-Some.session command c.answer.new.self.held c.in-Ok.outcome _ _ c.answer.new.outputs _ on is c.in_ok-outputs.ensures.items
-    (shown naming c.args.connection s command c.in-Some.session c.args.now c.args.self.now.held c.hear.new.self _ c.answer.new.self.held _ c.answer.new.outputs (Ok c.in-Ok.outcome) m live keeps same
+    (shown c.args.connection s c.in-Some.session c.args.now c.args.self.now.held c.hear.new.self _ _ m live keeps same
     (λ x mid im live on. c.in-Ok.ensures.answers naming _ x command mid im live on (room_at_first c.in_ok-outputs.outputs c.in_ok-outputs.ensures.len c.in_ok-outputs.ensures.capacity) nm a))
     (c.of-in-Ok.ensures ∙ (simp to_z-of_z at c.in_ok-push-in-Ok.ensures.items))
 
 -- a list with room takes the reply
 pub returns-in_err-push-in-Ok-clause-memory : goal.returns-in_err-push-in-Ok-clause-memory
-returns-in_err-push-in-Ok-clause-memory g c = on_err c.from_residual-in_err-push-in-Ok.result _ (λ naming s command m nm a.
-    let f : FitsSigned w64 c.args.self.now.held.last = search rules in
+returns-in_err-push-in-Ok-clause-memory g c = on_err c.from_residual-in_err-push-in-Ok.result _ (λ s m.
     let e : FitsSigned w64 c.in-Some.session = search rules in
     let t : FitsSigned w64 c.args.now = search rules in
     let on = said c.args.connection s.sessions _ (Some c.in-Some.session) (c.session_of.ensures s.sessions (λ k. ephemerals k s.nodes) m.sessions) c.in-Some.is in
     let keeps = simp to_z-of_z at (c.hear.ensures.heard s.sessions (λ k. ephemerals k s.nodes) m.sessions) in
     let live = (simp to_z-of_z at (c.hear.ensures.on s.sessions (λ k. ephemerals k s.nodes) c.args.connection m.sessions)) on in
     let same = to_z-of_z w64 c.in-Some.session e in
-    absurd (no_room (c.in_err-push-in-Ok.ensures.succeeds (room_for_reply _ _ _ _ _ _
-    (shown naming c.args.connection s command c.in-Some.session c.args.now c.args.self.now.held c.hear.new.self _ c.answer.new.self.held _ c.answer.new.outputs (Ok c.in-Ok.outcome) m live keeps same
-    (λ x mid im live on. c.in-Ok.ensures.answers naming _ x command mid im live on (room_at_first c.in_ok-outputs.outputs c.in_ok-outputs.ensures.len c.in_ok-outputs.ensures.capacity) nm a))))))
+    let room : HasRoom c.answer.new.outputs = shown c.args.connection s c.in-Some.session c.args.now c.args.self.now.held c.hear.new.self _ _ m live keeps same
+    (λ x mid im live on. room_left _ _ _ _ (c.in-Ok.ensures.kept _ x mid im live on (room_at_first c.in_ok-outputs.outputs c.in_ok-outputs.ensures.len c.in_ok-outputs.ensures.capacity))) in
+    absurd (no_room (c.in_err-push-in-Ok.ensures.succeeds room)))
 
 pub returns-in-Err-clause-memory : goal.returns-in-Err-clause-memory
-returns-in-Err-clause-memory g c = λ naming s command m nm a.
-    let f : FitsSigned w64 c.args.self.now.held.last = search rules in
+returns-in-Err-clause-memory g c = λ s m.
     let e : FitsSigned w64 c.in-Some.session = search rules in
     let t : FitsSigned w64 c.args.now = search rules in
     let h : FitsSigned w64 c.heard-before.result = search rules in
@@ -57,8 +58,8 @@ returns-in-Err-clause-memory g c = λ naming s command m nm a.
     let keeps = simp to_z-of_z at (c.hear.ensures.heard s.sessions (λ k. ephemerals k s.nodes) m.sessions) in
     let live = (simp to_z-of_z at (c.hear.ensures.on s.sessions (λ k. ephemerals k s.nodes) c.args.connection m.sessions)) on in
     let same = to_z-of_z w64 c.in-Some.session e in
-    let mid = means_after_memory _ _ _ _ _ _ (shown naming c.args.connection s command c.in-Some.session c.args.now c.args.self.now.held c.hear.new.self _ c.answer.new.self.held _ c.answer.new.outputs (Err c.in-Err.field-0) m live keeps same
-    (λ x mid im live on. c.in-Err.ensures.answers naming _ x command mid im live on (room_at_first c.in_ok-outputs.outputs c.in_ok-outputs.ensures.len c.in_ok-outputs.ensures.capacity) nm a)) in
+    let mid : Means c.answer.new.self.held (hears c.in-Some.session c.args.now s) = shown c.args.connection s c.in-Some.session c.args.now c.args.self.now.held c.hear.new.self _ _ m live keeps same
+    (λ x mid im live on. held_left _ _ _ _ (c.in-Err.ensures.kept _ x mid im live on (room_at_first c.in_ok-outputs.outputs c.in_ok-outputs.ensures.len c.in_ok-outputs.ensures.capacity))) in
     unheard_means c.answer.new.self.held c.hear-in-Err.new.self s live.one c.in-Some.session c.args.now c.heard-before.result mid m.numbers
     ((simp to_z-of_z at (c.heard-before.ensures s.sessions (λ k. ephemerals k s.nodes) live.one m.sessions)) live.live)
     ((simp to_z-of_z at (c.hear.ensures.back s.sessions (λ k. ephemerals k s.nodes) live.one m.sessions)) live.live)
