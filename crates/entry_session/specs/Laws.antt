@@ -1,0 +1,40 @@
+-- What holds of every session.
+use Rattle.std.specs.Prelude.{◌≡◌, ◌<◌, ◌^◌, ℕ, suc, List, length, Option, Some, None}
+use Rattle.path_seal.specs.Sealed.{AreKeys}
+use Rattle.payload_seal.specs.Ivs.{payload_iv}
+use Rattle.payload_seal.specs.declared.keys.EntryKeys.{EntryKeys}
+use Rattle.entry_session.specs.Heard.{Heard, store_frames}
+use Rattle.entry_session.specs.Stands.{Stand}
+use Rattle.entry_session.specs.Runs.{Ran}
+use Rattle.entry_session.specs.Veiled.{Veiled}
+use Rattle.entry_session.specs.declared.ending.Ending.{Ending}
+use Rattle.entry_session.specs.declared.ending.Ending.TheVariants.{StoreMalformed, WrongXid, NothingOpen, BadEvent}
+
+-- what was heard leads to one stand
+abbrev pub LeadsToOne : Type 0
+LeadsToOne = (k : EntryKeys) (boot c : ℕ) (hs : List Heard) (s t : Stand) → AreKeys k.names → Ran k boot c hs s → Ran k boot c hs t → s ≡ t
+
+-- what was handed up is what the client sent, veiled
+abbrev pub HandsUpVeiled : Type 0
+HandsUpVeiled = (k : EntryKeys) (boot c : ℕ) (hs : List Heard) (s : Stand) → Ran k boot c hs s → Veiled k boot c s.items s.up
+
+-- the session ended at a frame of the store for which it handed nothing down
+unfoldable pub IsStopped : Option Ending → Type 0
+IsStopped (Some (StoreMalformed refusal)) = Unit {0}
+IsStopped (Some (WrongXid expected got)) = Unit {0}
+IsStopped (Some (NothingOpen xid)) = Unit {0}
+IsStopped (Some (BadEvent flaw)) = Unit {0}
+IsStopped ending = ⊥
+
+-- for each frame of the store one frame was handed down, but for the one that ended the session
+pub record HandsDown (hs : List Heard) (s : Stand) : Type 0 where
+  pub stopped : IsStopped s.ending → suc (length s.down) ≡ length (store_frames hs)
+  pub others : (IsStopped s.ending → ⊥) → length s.down ≡ length (store_frames hs)
+
+abbrev pub HandsDownOneForOne : Type 0
+HandsDownOneForOne = (k : EntryKeys) (boot c : ℕ) (hs : List Heard) (s : Stand) → Ran k boot c hs s → HandsDown hs s
+
+-- no two payloads of the sessions of one boot have one IV
+abbrev pub HaveOwnIvs : Type 0
+HaveOwnIvs = (k : EntryKeys) (boot : ℕ) (hs : ℕ → List Heard) (stand : ℕ → Stand) → ((c : ℕ) → Ran k boot c (hs c) (stand c)) → boot < 2 ^ 24
+    → (c d i j : ℕ) → c < 2 ^ 32 → d < 2 ^ 32 → i < (stand c).sealed → j < (stand d).sealed → payload_iv boot c i ≡ payload_iv boot d j → (c ≡ d) × (i ≡ j)

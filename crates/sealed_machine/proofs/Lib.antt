@@ -1,0 +1,14 @@
+pub mod Sealing
+pub mod SimWords
+pub mod Numbering
+pub mod Effects
+pub mod Several
+pub mod ChildLists
+pub mod Answering
+pub mod Stepping
+pub mod Shaped
+pub mod Talking
+pub mod Border
+pub mod Asking
+pub mod NoTrace
+pub mod Orderly

@@ -1,0 +1,417 @@
+-- A connection that has no session and no watch is told nothing, and stays so while others act.
+use Rattle.std.proofs.Common.{◌≡◌, ℕ, ℤ, pos, Bool, true, false, cond, List, [], ◌∷◌, ◌++◌, Option, Some, None, map, filter, refl, ap, ◌∙◌}
+use Rattle.std.specs.Prelude.{◌==◌, ◌||◌, nat_le}
+use Rattle.std.specs.List.{list_any, filter_map, cons_option}
+use Rattle.std.specs.Ordering.{int_eq}
+use Rattle.zk_messages.specs.declared.reply.Outcome.{Outcome}
+use Rattle.tree_state.specs.declared.message.Output.{Output}
+use Rattle.tree_state.specs.declared.node.Moment.{Moment}
+use Rattle.tree_state.specs.declared.session.Given.{Given}
+use Rattle.tree_state.specs.Nodes.{Path, Node, Place, find, ephemerals}
+use Rattle.tree_state.specs.State.{State, Session, Watch, Aspect, on_data, on_children, is_on, connection_if_on, told, left, left_of_others, after_lower, is_same_watch, watching, watching_if, has_connection, session_of, is_numbered, changed_session, change_session, heard_at, moved_to, is_other_session, without_session, without_connection, session_at, next_zxid, start, start_at}
+use Rattle.tree_state.specs.Commands.{Change, create, delete, set_content, check, Command, refused, single, multi, set_acl, stat_at, get_content, get_acl, get_children, sync, ping, set_watches, close}
+use Rattle.tree_state.specs.Changes.{Trial, failed, done, need, refuse, Naming, Effect, Effects, event_to, events_to, creation_events, left_by_creation, end_events, deletion_events, left_by_deletion, content_events, created, deleted, updated, perform, no_effects, after_effect, or_failed, perform_all, all_deleted}
+use Rattle.tree_state.specs.Step.{Answer, with_error, told_only, or_error, answer_single, answer_multi, with_watch, Notice, tells, watches, Noticed, noticed, all_noticed, with_noticed, closed, answer, Act, connects, asks as asking, loses, expires, Next, hears, replied, taken, with_session, with_moved, connected_at, connected, answer_connect, watches_gone, ended, lost, expired, step}
+use Rattle.tree_server.specs.Out.{to_connection}
+use Rattle.sealed_machine.proofs.Talking.{to_connection-append}
+
+-- ---- lists
+
+either_false : (a b : Bool) → (a || b) ≡ false → (a ≡ false) × (b ≡ false)
+either_false true b h = absurd cc
+either_false false b h = (refl, h)
+
+both_false : (a b : Bool) → a ≡ false → b ≡ false → (a || b) ≡ false
+both_false a b e f = ap (λ (x : Bool). x || b) e ∙ f
+
+none_filtered : {A : Type 0} (q p : A → Bool) (xs : List A) → list_any q xs ≡ false → list_any q (filter p xs) ≡ false
+none_filtered q p [] h = refl
+none_filtered q p (x ∷ xs) h = go (p x) (either_false (q x) (list_any q xs) h) (none_filtered q p xs (either_false (q x) (list_any q xs) h).1)
+  where
+    go : (b : Bool) → (q x ≡ false) × (list_any q xs ≡ false) → list_any q (filter p xs) ≡ false → list_any q (cond b (x ∷ filter p xs) (filter p xs)) ≡ false
+    go true e ih = both_false (q x) (list_any q (filter p xs)) e.0 ih
+    go false e ih = ih
+
+-- ---- watches
+
+unfoldable pub is_of : ℕ → Watch → Bool
+is_of c w = w.connection == c
+
+unfoldable pub is_one : ℕ → ℕ → Bool
+is_one c d = d == c
+
+told_none : (c : ℕ) (a : Aspect) (p : Path) (ws : List Watch) → list_any (is_of c) ws ≡ false → list_any (is_one c) (told a p ws) ≡ false
+unfolding told connection_if_on is_of is_one
+told_none c a p [] h = refl
+told_none c a p (w ∷ ws) h = go (is_on a p w) (either_false _ _ h).0 (told_none c a p ws (either_false _ _ h).1)
+  where
+    go : (b : Bool) → (w.connection == c) ≡ false → list_any (λ d. d == c) (filter_map (connection_if_on a p) ws) ≡ false → list_any (λ d. d == c) (cons_option (cond b (Some w.connection) None) (filter_map (connection_if_on a p) ws)) ≡ false
+    go true e ih = both_false _ _ e ih
+    go false e ih = ih
+
+pub nothing_to : (c : ℕ) → to_connection c [] ≡ []
+unfolding to_connection
+nothing_to c = refl
+
+pub first_none : (c : ℕ) (o : Output) (os : List Output) → (o.connection == c) ≡ false → to_connection c os ≡ [] → to_connection c (o ∷ os) ≡ []
+unfolding to_connection
+first_none c o os e f = ap (λ (b : Bool). cond b (o.message ∷ to_connection c os) (to_connection c os)) e ∙ f
+
+pub events_none : (c : ℕ) (kind : ℤ) (p : Path) (cs : List ℕ) → list_any (is_one c) cs ≡ false → to_connection c (events_to kind p cs) ≡ []
+unfolding events_to event_to to_connection is_one
+events_none c kind p [] h = refl
+events_none c kind p (d ∷ cs) h =
+    let e = either_false (d == c) (list_any (λ x. x == c) cs) h in
+    let f = events_none c kind p cs e.1 in
+    first_none c _ _ e.0 f
+
+two_none : (c : ℕ) (os us : List Output) → to_connection c os ≡ [] → to_connection c us ≡ [] → to_connection c (os ++ us) ≡ []
+two_none c os us e f = to_connection-append c os us ∙ (λ i. e i ++ f i)
+
+left_none : (c : ℕ) (a : Aspect) (p : Path) (ws : List Watch) → list_any (is_of c) ws ≡ false → list_any (is_of c) (left a p ws) ≡ false
+unfolding left
+left_none c a p ws h = none_filtered (is_of c) _ ws h
+
+others_none : (c d : ℕ) (ws : List Watch) → list_any (is_of c) ws ≡ false → list_any (is_of c) (left_of_others d ws) ≡ false
+unfolding left_of_others
+others_none c d ws h = none_filtered (is_of c) _ ws h
+
+after_none : (c : ℕ) (w : Watch) (ws : List Watch) → is_of c w ≡ false → list_any (is_of c) ws ≡ false → list_any (is_of c) (after_lower w ws) ≡ false
+unfolding after_lower
+after_none c w [] e h = both_false _ _ e refl
+after_none c w (v ∷ vs) e h = go (nat_le v.connection w.connection) (either_false (is_of c v) (list_any (is_of c) vs) h) (after_none c w vs e (either_false (is_of c v) (list_any (is_of c) vs) h).1)
+  where
+    go : (b : Bool) → (is_of c v ≡ false) × (list_any (is_of c) vs ≡ false) → list_any (is_of c) (after_lower w vs) ≡ false → list_any (is_of c) (cond b (v ∷ after_lower w vs) (w ∷ v ∷ vs)) ≡ false
+    go true f ih = both_false (is_of c v) _ f.0 ih
+    go false f ih = both_false (is_of c w) _ e (both_false (is_of c v) _ f.0 f.1)
+
+watching_none : (c : ℕ) (w : Watch) (ws : List Watch) → is_of c w ≡ false → list_any (is_of c) ws ≡ false → list_any (is_of c) (watching w ws) ≡ false
+unfolding watching
+watching_none c w ws e h = go (list_any (is_same_watch w) ws)
+  where
+    go : (b : Bool) → list_any (is_of c) (cond b ws (after_lower w ws)) ≡ false
+    go true = h
+    go false = after_none c w ws e h
+
+-- ---- effects
+
+-- a change tells the connection nothing, leaves no watch of it, and no session
+pub record Quiet (c : ℕ) (s t : State) (events : List Output) : Type 0 where
+  pub watches_are : list_any (is_of c) t.watches ≡ false
+  pub sessions_are : t.sessions ≡ s.sessions
+  pub events_are : to_connection c events ≡ []
+
+unfoldable QuietIf : ℕ → State → Trial ℤ Effect → Type 0
+QuietIf c s (failed code) = Unit {0}
+QuietIf c s (done e) = Quiet c s e.state e.events
+
+need_quiet : {A : Type 0} (c : ℕ) (s : State) (o : Option A) (code : ℤ) (f : A → Trial ℤ Effect) → ((x : A) → QuietIf c s (f x)) → QuietIf c s (need o code f)
+unfolding need QuietIf
+need_quiet c s None code f h = tt
+need_quiet c s (Some x) code f h = h x
+
+refuse_quiet : (c : ℕ) (s : State) (b : Bool) (code : ℤ) (t : Trial ℤ Effect) → QuietIf c s t → QuietIf c s (refuse b code t)
+unfolding refuse QuietIf
+refuse_quiet c s true code t h = tt
+refuse_quiet c s false code t h = h
+
+done_quiet : (c : ℕ) (s : State) (e : Effect) → Quiet c s e.state e.events → QuietIf c s (done e)
+unfolding QuietIf
+done_quiet c s e h = h
+
+created_quiet : (c : ℕ) (at : Moment) (p : Path) (n : List ℕ) (node : Node) (s : State) → list_any (is_of c) s.watches ≡ false → Quiet c s (created at p n node s).state (created at p n node s).events
+unfolding created left_by_creation creation_events
+created_quiet c at p n node s h = record {
+  watches_are = left_none c on_children p _ (left_none c on_data (n ∷ p) s.watches h);
+  sessions_are = refl;
+  events_are = two_none c _ _ (events_none c (pos 1) (n ∷ p) _ (told_none c on_data (n ∷ p) s.watches h)) (events_none c (pos 4) p _ (told_none c on_children p s.watches h));
+}
+
+pub deleted_quiet : (c : ℕ) (z : ℤ) (p : Path) (s : State) → list_any (is_of c) s.watches ≡ false → Quiet c s (deleted z p s).state (deleted z p s).events
+unfolding deleted left_by_deletion deletion_events end_events
+deleted_quiet c z p s h = record {
+  watches_are = left_none c on_children _ _ (left_none c on_children p _ (left_none c on_data p s.watches h));
+  sessions_are = refl;
+  events_are = two_none c _ _ (two_none c _ _ (events_none c (pos 2) p _ (told_none c on_data p s.watches h)) (events_none c (pos 2) p _ (none_filtered (is_one c) _ (told on_children p s.watches) (told_none c on_children p s.watches h))))
+      (events_none c (pos 4) _ _ (told_none c on_children _ _ (left_none c on_children p s.watches h)));
+}
+
+updated_quiet : (c : ℕ) (at : Moment) (p : Path) (d : Option (List ℕ)) (node : Node) (s : State) → list_any (is_of c) s.watches ≡ false → Quiet c s (updated at p d node s).state (updated at p d node s).events
+unfolding updated content_events
+updated_quiet c at p d node s h = record { watches_are = left_none c on_data p s.watches h; sessions_are = refl; events_are = events_none c (pos 3) p _ (told_none c on_data p s.watches h) }
+
+same_quiet : (c : ℕ) (s t : State) → t.watches ≡ s.watches → t.sessions ≡ s.sessions → list_any (is_of c) s.watches ≡ false → Quiet c s t []
+unfolding to_connection
+same_quiet c s t e f h = record { watches_are = ap (list_any (is_of c)) e ∙ h; sessions_are = f; events_are = refl }
+
+perform_quiet : (c : ℕ) (naming : Naming) (at : Moment) (s : State) (change : Change) → list_any (is_of c) s.watches ≡ false → QuietIf c s (perform naming at s change)
+unfolding perform
+perform_quiet c naming at s (create p n d q e) h =
+    need_quiet c s (find s.nodes p) _ _ λ up. refuse_quiet c s _ _ _ (refuse_quiet c s _ _ _ (need_quiet c s _ _ _ λ name. refuse_quiet c s _ _ _ (done_quiet c s _ (created_quiet c at p name _ s h))))
+perform_quiet c naming at s (delete p v) h = need_quiet c s (find s.nodes p) _ _ λ node. refuse_quiet c s _ _ _ (refuse_quiet c s _ _ _ (done_quiet c s _ (deleted_quiet c at.zxid p s h)))
+perform_quiet c naming at s (set_content p d v) h = need_quiet c s (find s.nodes p) _ _ λ node. refuse_quiet c s _ _ _ (refuse_quiet c s _ _ _ (done_quiet c s _ (updated_quiet c at p d node s h)))
+perform_quiet c naming at s (check p v) h = need_quiet c s (find s.nodes p) _ _ λ node. refuse_quiet c s _ _ _ (done_quiet c s _ (same_quiet c s _ refl refl h))
+
+unfoldable QuietAllIf : ℕ → State → Trial (List ℤ) Effects → Type 0
+QuietAllIf c s (failed codes) = Unit {0}
+QuietAllIf c s (done e) = Quiet c s e.state e.events
+
+after_quiet : (c : ℕ) (s : State) (e : Effect) (t : Trial (List ℤ) Effects) → Quiet c s e.state e.events → QuietAllIf c e.state t → QuietAllIf c s (after_effect e t)
+unfolding after_effect QuietAllIf
+after_quiet c s e (failed codes) h j = tt
+after_quiet c s e (done more) h j = record { watches_are = j.watches_are; sessions_are = j.sessions_are ∙ h.sessions_are; events_are = two_none c e.events more.events h.events_are j.events_are }
+
+or_failed_quiet : (c : ℕ) (s : State) (t : Trial ℤ Effect) (rest : List Change) (next : Effect → Trial (List ℤ) Effects) → QuietIf c s t → ((e : Effect) → list_any (is_of c) e.state.watches ≡ false → QuietAllIf c e.state (next e)) → QuietAllIf c s (or_failed t rest next)
+unfolding or_failed QuietIf QuietAllIf
+or_failed_quiet c s (failed code) rest next h j = tt
+or_failed_quiet c s (done e) rest next h j = after_quiet c s e (next e) h (j e h.watches_are)
+
+perform_all_quiet : (c : ℕ) (naming : Naming) (at : Moment) (s : State) (changes : List Change) → list_any (is_of c) s.watches ≡ false → QuietAllIf c s (perform_all naming at s changes)
+unfolding perform_all no_effects QuietAllIf
+perform_all_quiet c naming at s [] h = same_quiet c s _ refl refl h
+perform_all_quiet c naming at s (x ∷ xs) h = or_failed_quiet c s (perform naming at s x) xs _ (perform_quiet c naming at s x h) (λ e g. perform_all_quiet c naming at e.state xs g)
+
+all_deleted_quiet : (c : ℕ) (z : ℤ) (ps : List Path) (s : State) → list_any (is_of c) s.watches ≡ false → Quiet c s (all_deleted z ps s).state (all_deleted z ps s).events
+unfolding all_deleted no_effects
+all_deleted_quiet c z [] s h = same_quiet c s _ refl refl h
+all_deleted_quiet c z (p ∷ ps) s h =
+    let e = deleted_quiet c z p s h in
+    let m = all_deleted_quiet c z ps (deleted z p s).state e.watches_are in
+    record { watches_are = m.watches_are; sessions_are = m.sessions_are ∙ e.sessions_are; events_are = two_none c _ _ e.events_are m.events_are }
+
+-- ---- answers to another connection
+
+-- the connection has no session and no watch
+pub record NoTrace (c : ℕ) (s : State) : Type 0 where
+  pub watches_are : list_any (is_of c) s.watches ≡ false
+  pub sessions_are : session_of c s.sessions ≡ None
+
+-- nor has it after the answer, which tells it nothing
+pub record QuietAnswer (c : ℕ) (a : Answer) : Type 0 where
+  pub after : NoTrace c a.state
+  pub events_are : to_connection c a.events ≡ []
+
+still : (c : ℕ) (s t : State) (events : List Output) → NoTrace c s → Quiet c s t events → NoTrace c t
+still c s t events n h = record { watches_are = h.watches_are; sessions_are = ap (session_of c) h.sessions_are ∙ n.sessions_are }
+
+nothing_told : (c : ℕ) (s : State) (outcome : Outcome) → NoTrace c s → QuietAnswer c (told_only s outcome)
+unfolding told_only to_connection
+nothing_told c s outcome n = record { after = n; events_are = refl }
+
+error_told : (c : ℕ) (s : State) (code : ℤ) → NoTrace c s → QuietAnswer c (with_error s code)
+unfolding with_error to_connection
+error_told c s code n = record { after = n; events_are = refl }
+
+unfoldable QuietAnswerIf : ℕ → Trial ℤ Answer → Type 0
+QuietAnswerIf c (failed code) = Unit {0}
+QuietAnswerIf c (done a) = QuietAnswer c a
+
+or_error_quiet : (c : ℕ) (s : State) (t : Trial ℤ Answer) → NoTrace c s → QuietAnswerIf c t → QuietAnswer c (or_error s t)
+unfolding or_error QuietAnswerIf
+or_error_quiet c s (failed code) n h = error_told c s code n
+or_error_quiet c s (done a) n h = h
+
+need_answer : {A : Type 0} (c : ℕ) (o : Option A) (code : ℤ) (f : A → Trial ℤ Answer) → ((x : A) → QuietAnswerIf c (f x)) → QuietAnswerIf c (need o code f)
+unfolding need QuietAnswerIf
+need_answer c None code f h = tt
+need_answer c (Some x) code f h = h x
+
+refuse_answer : (c : ℕ) (b : Bool) (code : ℤ) (t : Trial ℤ Answer) → QuietAnswerIf c t → QuietAnswerIf c (refuse b code t)
+unfolding refuse QuietAnswerIf
+refuse_answer c true code t h = tt
+refuse_answer c false code t h = h
+
+done_answer : (c : ℕ) (s : State) (outcome : Outcome) → NoTrace c s → QuietAnswerIf c (done (told_only s outcome))
+unfolding QuietAnswerIf
+done_answer c s outcome n = nothing_told c s outcome n
+
+single_quiet : (c : ℕ) (s : State) (t : Trial ℤ Effect) → NoTrace c s → QuietIf c s t → QuietAnswer c (answer_single s t)
+unfolding answer_single QuietIf
+single_quiet c s (failed code) n h = error_told c s code n
+single_quiet c s (done e) n h = record { after = still c s e.state e.events n h; events_are = h.events_are }
+
+multi_quiet : (c : ℕ) (s : State) (t : Trial (List ℤ) Effects) → NoTrace c s → QuietAllIf c s t → QuietAnswer c (answer_multi s t)
+unfolding answer_multi QuietAllIf
+multi_quiet c s (failed codes) n h = nothing_told c s _ n
+multi_quiet c s (done e) n h = record { after = still c s e.state e.events n h; events_are = h.events_are }
+
+watch_if_none : (c : ℕ) (b : Bool) (w : Watch) (ws : List Watch) → is_of c w ≡ false → list_any (is_of c) ws ≡ false → list_any (is_of c) (watching_if b w ws) ≡ false
+unfolding watching_if
+watch_if_none c true w ws e h = watching_none c w ws e h
+watch_if_none c false w ws e h = h
+
+with_watch_none : (c d : ℕ) (b : Bool) (a : Aspect) (p : Path) (s : State) → (d == c) ≡ false → NoTrace c s → NoTrace c (with_watch b a p d s)
+unfolding with_watch is_of
+with_watch_none c d b a p s e n = record { watches_are = watch_if_none c b (record { aspect = a; path = p; connection = d }) s.watches e n.watches_are; sessions_are = n.sessions_are }
+
+-- the watches and the events of a setWatches
+record QuietNoticed (c : ℕ) (t : Noticed) : Type 0 where
+  watches_are : list_any (is_of c) t.kept ≡ false
+  events_are : to_connection c t.events ≡ []
+
+noticed_quiet : (c d : ℕ) (a : Aspect) (p : Path) (n : Notice) (t : Noticed) → (d == c) ≡ false → QuietNoticed c t → QuietNoticed c (noticed a p d n t)
+unfolding noticed event_to is_of
+noticed_quiet c d a p (tells kind) t e h = record { watches_are = h.watches_are; events_are = two_none c t.events _ h.events_are (first_none c _ [] e (nothing_to c)) }
+noticed_quiet c d a p watches t e h = record { watches_are = watching_none c (record { aspect = a; path = p; connection = d }) t.kept e h.watches_are; events_are = h.events_are }
+
+all_noticed_quiet : (c d : ℕ) (f : Option Node → Notice) (a : Aspect) (es : List Place) (ps : List Path) (t : Noticed) → (d == c) ≡ false → QuietNoticed c t → QuietNoticed c (all_noticed f a es d ps t)
+unfolding all_noticed
+all_noticed_quiet c d f a es [] t e h = h
+all_noticed_quiet c d f a es (p ∷ ps) t e h = all_noticed_quiet c d f a es ps _ e (noticed_quiet c d a p (f (find es p)) t e h)
+
+with_noticed_quiet : (c : ℕ) (s : State) (t : Noticed) → NoTrace c s → QuietNoticed c t → QuietAnswer c (with_noticed s t)
+unfolding with_noticed
+with_noticed_quiet c s t n h = record { after = record { watches_are = h.watches_are; sessions_are = n.sessions_are }; events_are = h.events_are }
+
+-- ---- sessions
+
+none_without : (c : ℕ) (session : ℤ) (xs : List Session) → session_of c xs ≡ None → session_of c (without_session session xs) ≡ None
+unfolding session_of without_session
+none_without c session [] h = refl
+none_without c session (x ∷ xs) h = go (is_other_session session x) (has_connection c x) refl h (none_without c session xs)
+  where
+    go : (b h : Bool) → has_connection c x ≡ h → cond h (Some x.number) (session_of c xs) ≡ None → (session_of c xs ≡ None → session_of c (filter (is_other_session session) xs) ≡ None) → session_of c (cond b (x ∷ filter (is_other_session session) xs) (filter (is_other_session session) xs)) ≡ None
+    go b true e f ih = absurd cc
+    go true false e f ih = ap (λ (t : Bool). cond t (Some x.number) (session_of c (filter (is_other_session session) xs))) e ∙ ih f
+    go false false e f ih = ih f
+
+none_changed : (c : ℕ) (f : Session → Session) (xs : List Session) → ((x : Session) → has_connection c x ≡ false → has_connection c (f x) ≡ false) → session_of c xs ≡ None → session_of c (map f xs) ≡ None
+unfolding session_of
+none_changed c f [] k h = refl
+none_changed c f (x ∷ xs) k h = go (has_connection c x) refl h (none_changed c f xs k)
+  where
+    go : (b : Bool) → has_connection c x ≡ b → cond b (Some x.number) (session_of c xs) ≡ None → (session_of c xs ≡ None → session_of c (map f xs) ≡ None) → session_of c (f x ∷ map f xs) ≡ None
+    go true e j ih = absurd cc
+    go false e j ih = ap (λ (t : Bool). cond t (Some (f x).number) (session_of c (map f xs))) (k x e) ∙ ih j
+
+closed_none : (c : ℕ) (session : ℤ) (d : ℕ) (s : State) → NoTrace c s → NoTrace c (closed session d s)
+unfolding closed
+closed_none c session d s n = record { watches_are = others_none c d s.watches n.watches_are; sessions_are = none_without c session s.sessions n.sessions_are }
+
+pub answer_quiet : (c d : ℕ) (naming : Naming) (at : Moment) (s : State) (command : Command) → (d == c) ≡ false → NoTrace c s → QuietAnswer c (answer naming at d s command)
+unfolding answer
+answer_quiet c d naming at s (refused code) e n = error_told c s code n
+answer_quiet c d naming at s (single change) e n = single_quiet c s _ n (perform_quiet c naming at s change n.watches_are)
+answer_quiet c d naming at s (multi changes) e n = multi_quiet c s _ n (perform_all_quiet c naming at s changes n.watches_are)
+answer_quiet c d naming at s (set_acl p v) e n = or_error_quiet c s _ n (need_answer c _ _ _ λ node. refuse_answer c _ _ _ (refuse_answer c _ _ _ (done_answer c _ _ (record { watches_are = n.watches_are; sessions_are = n.sessions_are }))))
+answer_quiet c d naming at s (stat_at p w) e n = or_error_quiet c _ _ (with_watch_none c d w on_data p s e n) (need_answer c _ _ _ λ node. done_answer c _ _ (with_watch_none c d w on_data p s e n))
+answer_quiet c d naming at s (get_content p w) e n = or_error_quiet c s _ n (need_answer c _ _ _ λ node. done_answer c _ _ (with_watch_none c d w on_data p s e n))
+answer_quiet c d naming at s (get_acl p) e n = or_error_quiet c s _ n (need_answer c _ _ _ λ node. done_answer c _ _ n)
+answer_quiet c d naming at s (get_children p w stat) e n = or_error_quiet c s _ n (need_answer c _ _ _ λ node. done_answer c _ _ (with_watch_none c d w on_children p s e n))
+answer_quiet c d naming at s (sync p) e n = nothing_told c s _ n
+answer_quiet c d naming at s ping e n = nothing_told c s _ n
+answer_quiet c d naming at s (set_watches seen x y z) e n = with_noticed_quiet c s _ n (
+    all_noticed_quiet c d _ on_children s.nodes z _ e (
+    all_noticed_quiet c d _ on_data s.nodes y _ e (
+    all_noticed_quiet c d _ on_data s.nodes x _ e (record { watches_are = n.watches_are; events_are = nothing_to c }))))
+answer_quiet c d naming at s close e n =
+    let q = all_deleted_quiet c at.zxid (ephemerals at.session s.nodes) s n.watches_are in
+    record { after = closed_none c at.session d _ (still c s _ _ n q); events_are = q.events_are }
+
+-- ---- steps of others
+
+pub record QuietNext (c : ℕ) (n : Next) : Type 0 where
+  pub after : NoTrace c n.state
+  pub outputs_are : to_connection c n.outputs ≡ []
+
+-- a session that is changed to one that this connection does not have
+none_set : (c : ℕ) (session : ℤ) (f : Session → Session) (xs : List Session) → ((x : Session) → has_connection c x ≡ false → has_connection c (f x) ≡ false) → session_of c xs ≡ None → session_of c (change_session session f xs) ≡ None
+unfolding change_session changed_session
+none_set c session f xs k h = none_changed c (changed_session session f) xs (λ x e. go x (is_numbered session x) e) h
+  where
+    go : (x : Session) (b : Bool) → has_connection c x ≡ false → has_connection c (cond b (f x) x) ≡ false
+    go x true e = k x e
+    go x false e = e
+
+heard_keeps : (c : ℕ) (now : ℤ) (x : Session) → has_connection c (heard_at now x) ≡ has_connection c x
+unfolding has_connection heard_at
+heard_keeps c now x = refl
+
+moved_none : (c d : ℕ) (timeout now : ℤ) (x : Session) → (d == c) ≡ false → has_connection c (moved_to d timeout now x) ≡ false
+unfolding has_connection moved_to
+moved_none c d timeout now x e = e
+
+no_connection_none : (c : ℕ) (x : Session) → has_connection c (record x { connection = None }) ≡ false
+unfolding has_connection
+no_connection_none c x = refl
+
+lost_keeps : (c d : ℕ) (x : Session) → has_connection c x ≡ false → has_connection c (without_connection d x) ≡ false
+unfolding without_connection
+lost_keeps c d x e = go (has_connection d x)
+  where
+    go : (b : Bool) → has_connection c (cond b (record x { connection = None }) x) ≡ false
+    go true = no_connection_none c x
+    go false = e
+
+hears_none : (c : ℕ) (session now : ℤ) (s : State) → NoTrace c s → NoTrace c (hears session now s)
+unfolding hears
+hears_none c session now s n = record { watches_are = n.watches_are; sessions_are = none_set c session (heard_at now) s.sessions (heard_same c now) n.sessions_are }
+  where
+    heard_same : (c : ℕ) (now : ℤ) (x : Session) → has_connection c x ≡ false → has_connection c (heard_at now x) ≡ false
+    heard_same c now x e = heard_keeps c now x ∙ e
+
+taken_quiet : (c d : ℕ) (naming : Naming) (xid : ℤ) (command : Command) (now : ℤ) (s : State) (o : Option ℤ) → (d == c) ≡ false → NoTrace c s → QuietNext c (taken naming d xid command now s o)
+unfolding taken replied
+taken_quiet c d naming xid command now s None e n = record { after = n; outputs_are = nothing_to c }
+taken_quiet c d naming xid command now s (Some session) e n =
+    let q = answer_quiet c d naming (record { zxid = next_zxid s; time = now; session = session }) _ command e (hears_none c session now s n) in
+    record { after = q.after; outputs_are = two_none c _ _ q.events_are (first_none c _ [] e (nothing_to c)) }
+
+none_more : (c : ℕ) (x : Session) (xs : List Session) → has_connection c x ≡ false → session_of c xs ≡ None → session_of c (xs ++ x ∷ []) ≡ None
+unfolding session_of
+none_more c x [] e h = ap (λ (b : Bool). cond b (Some x.number) None) e
+none_more c x (y ∷ xs) e h = go (has_connection c y) refl h (none_more c x xs e)
+  where
+    go : (b : Bool) → has_connection c y ≡ b → cond b (Some y.number) (session_of c xs) ≡ None → (session_of c xs ≡ None → session_of c (xs ++ x ∷ []) ≡ None) → cond b (Some y.number) (session_of c (xs ++ x ∷ [])) ≡ None
+    go true i j ih = absurd cc
+    go false i j ih = ih j
+
+fresh_none : (c d : ℕ) (given : Given) (now : ℤ) → (d == c) ≡ false → has_connection c (record { number = given.session; timeout = given.timeout; password = given.password; heard = now; connection = Some d }) ≡ false
+unfolding has_connection
+fresh_none c d given now e = e
+
+connected_at_none : (c d : ℕ) (o : Option Session) (given : Given) (now : ℤ) (s : State) → (d == c) ≡ false → NoTrace c s → NoTrace c (connected_at o given now d s)
+unfolding connected_at with_session with_moved
+connected_at_none c d None given now s e n = record { watches_are = n.watches_are; sessions_are = none_more c _ s.sessions (fresh_none c d given now e) n.sessions_are }
+connected_at_none c d (Some x) given now s e n = record { watches_are = n.watches_are; sessions_are = none_set c given.session (moved_to d given.timeout now) s.sessions (λ y f. moved_none c d given.timeout now y e) n.sessions_are }
+
+connected_none : (c d : ℕ) (given : Given) (now : ℤ) (s : State) → (d == c) ≡ false → NoTrace c s → NoTrace c (connected given now d s)
+unfolding connected
+connected_none c d given now s e n = go (int_eq given.session (pos 0))
+  where
+    go : (b : Bool) → NoTrace c (cond b s (connected_at (session_at given.session s.sessions) given now d s))
+    go true = n
+    go false = connected_at_none c d (session_at given.session s.sessions) given now s e n
+
+gone_none : (c : ℕ) (o : Option ℕ) (ws : List Watch) → list_any (is_of c) ws ≡ false → list_any (is_of c) (watches_gone o ws) ≡ false
+unfolding watches_gone
+gone_none c None ws h = h
+gone_none c (Some d) ws h = others_none c d ws h
+
+ended_none : (c : ℕ) (session : ℤ) (s : State) → NoTrace c s → NoTrace c (ended session s)
+unfolding ended
+ended_none c session s n = record { watches_are = gone_none c _ s.watches n.watches_are; sessions_are = none_without c session s.sessions n.sessions_are }
+
+lost_none : (c d : ℕ) (s : State) → NoTrace c s → NoTrace c (lost d s)
+unfolding lost
+lost_none c d s n = record { watches_are = others_none c d s.watches n.watches_are; sessions_are = none_changed c (without_connection d) s.sessions (lost_keeps c d) n.sessions_are }
+
+-- the act is another connection's, or none's
+unfoldable pub IsOthers : ℕ → Act → Type 0
+IsOthers c (connects d asked given now) = (d == c) ≡ false
+IsOthers c (asking d xid command now) = (d == c) ≡ false
+IsOthers c (loses d) = Unit {0}
+IsOthers c (expires session now) = Unit {0}
+
+pub step_quiet : (c : ℕ) (naming : Naming) (s : State) (act : Act) → IsOthers c act → NoTrace c s → QuietNext c (step naming s act)
+unfolding IsOthers step answer_connect expired
+step_quiet c naming s (connects d asked given now) e n = record { after = connected_none c d given now s e n; outputs_are = first_none c _ [] e (nothing_to c) }
+step_quiet c naming s (asking d xid command now) e n = taken_quiet c d naming xid command now s (session_of d s.sessions) e n
+step_quiet c naming s (loses d) e n = record { after = lost_none c d s n; outputs_are = nothing_to c }
+step_quiet c naming s (expires session now) e n =
+    let q = all_deleted_quiet c (next_zxid s) (ephemerals session s.nodes) s n.watches_are in
+    record { after = ended_none c session _ (still c s _ _ n q); outputs_are = q.events_are }
+
+pub start_none : (c : ℕ) → NoTrace c start
+unfolding start_at session_of
+start_none c = record { watches_are = refl; sessions_are = refl }

@@ -1,0 +1,4 @@
+pub mod Seals
+pub mod Veils
+pub mod Opens
+pub mod Runs

@@ -1,0 +1,7 @@
+pub mod OneSession
+pub mod Orders
+pub mod Filling
+pub mod LawOver
+pub mod Begun
+pub mod Drained
+pub mod Whole

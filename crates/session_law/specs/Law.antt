@@ -1,0 +1,161 @@
+-- The law over many sessions: over one store that follows the machine, and what the session of each connection heard.
+use Rattle.std.specs.Prelude.{◌≡◌, ◌<◌, ◌<ℤ◌, ◌^◌, ℕ, ℤ, suc, pos, List, [], ◌∷◌, ◌++◌, length, Bool, true, false, Option, Some, None, All}
+use Rattle.jute_core.specs.Frames.{Stream}
+use Rattle.path_seal.specs.Sealed.{AreKeys}
+use Rattle.payload_seal.specs.declared.keys.EntryKeys.{EntryKeys}
+use Rattle.zk_messages.specs.Sent.{Sent, client_limit}
+use Rattle.zk_messages.specs.declared.request.Item.{Item}
+use Rattle.zk_messages.specs.declared.request.Item.TheVariants.{Requests}
+use Rattle.zk_messages.specs.declared.request.Request.{Request}
+use Rattle.zk_messages.specs.declared.request.Request.TheVariants.{Close}
+use Rattle.request_rewrite.specs.Veil.{Veil}
+use Rattle.counter_enclave.specs.Enclave.{IsSealedName}
+use Rattle.tree_state.specs.declared.message.Message.{Message}
+use Rattle.tree_state.specs.declared.message.Message.TheVariants as messages
+use Rattle.tree_state.specs.Trees.{IsNaming}
+use Rattle.tree_state.specs.Plain.{plain}
+use Rattle.tree_state.specs.Changes.{Naming}
+use Rattle.tree_state.specs.Step.{Act}
+use Rattle.tree_server.specs.Zips.{Zips}
+use Rattle.tree_server.specs.Messages.{Messages}
+use Rattle.tree_server.specs.Out.{out}
+use Rattle.tree_server.specs.Orders.{Legal}
+use Rattle.tree_server.specs.Follows.{Past, Follows}
+use Rattle.tree_server.specs.declared.entry.Entry.{Entry}
+use Rattle.tree_server.specs.declared.entry.Entry.TheVariants.{Connect, Take, Lost, Expire}
+use Rattle.entry_session.specs.Heard.{Heard, from_client, from_store, bad_client, bad_store, given, client_frames, store_frames, bad_of_client, bad_of_store}
+use Rattle.entry_session.specs.Stands.{Stand}
+use Rattle.entry_session.specs.Runs.{Ran, store_limit, IsGivenEnding}
+use Rattle.entry_session.specs.Veiled.{VeilsFrom, SpellsItems}
+use Rattle.entry_session.specs.Sides.{IsSide, bytes_of}
+use Rattle.entry_session.specs.declared.ending.Ending.{Ending}
+use Rattle.entry_session.specs.declared.ending.Ending.TheVariants as endings
+use Rattle.session_law.specs.Fill.{Fills, items_in}
+
+-- the front of a list
+pub record IsFront {A : Type 0} (front whole : List A) : Type 0 where
+  pub more : List A
+  pub is : whole ≡ front ++ more
+
+-- ---- what is given
+
+-- One connection between a client and the store: the bytes that its client gave, what its session heard and where that led, the bytes
+-- that the store was fed, and whether the store's side has an ending.
+pub record Connection : Type 0 where
+  pub sent : List ℕ
+  pub heard : List Heard
+  pub stand : Stand
+  pub fed : List ℕ
+  pub is_over : Bool
+
+-- an event answers nothing
+unfoldable pub answers : List Message → ℕ
+answers [] = 0
+answers (messages.Event e ∷ ms) = answers ms
+answers (messages.Reply r ∷ ms) = suc (answers ms)
+answers (messages.Connected r ∷ ms) = suc (answers ms)
+
+unfoldable pub IsAnswer : Message → Type 0
+IsAnswer (messages.Event e) = ⊥
+IsAnswer m = Unit {0}
+
+-- each answer of the store came after the frame that it answers
+unfoldable pub AreBehind : List Message → List Heard → Type 0
+AreBehind told [] = Unit {0}
+AreBehind told (from_store body ∷ hs) = ((done left : List Message) (m : Message) → told ≡ done ++ m ∷ left → length done ≡ length (store_frames hs) → IsAnswer m → answers done < length (client_frames hs)) × AreBehind told hs
+AreBehind told (from_client body ∷ hs) = AreBehind told hs
+AreBehind told (bad_client z ∷ hs) = AreBehind told hs
+AreBehind told (bad_store z ∷ hs) = AreBehind told hs
+AreBehind told (given e ∷ hs) = AreBehind told hs
+
+-- What joins connection c to its session and to the store.
+pub record IsJoined (k : EntryKeys) (boot c : ℕ) (past : Past) (x : Connection) (items : List Item) (under_way unfed : List ℕ) : Type 0 where
+  pub ran : Ran k boot c x.heard x.stand
+  -- the items that the client sent; its session took the first bytes, and the others are under way
+  pub is_sent : Sent x.sent items
+  pub taken : List ℕ
+  pub piped : x.sent ≡ taken ++ under_way
+  pub client_side : IsSide client_limit (client_frames x.heard) (bad_of_client x.heard) x.stand.ending taken
+  -- the store's bytes are those pulled
+  pub store_side : IsSide store_limit (store_frames x.heard) (bad_of_store x.heard) x.stand.ending (past.pulled c)
+  -- the store was fed the first of what was handed up
+  pub up : bytes_of x.stand.up ≡ x.fed ++ unfed
+  -- its entries of the connection hold what the first whole frames of these bytes spell, and all of them while its side goes on
+  pub bodies : List (List ℕ)
+  pub more : List (List ℕ)
+  pub partial : List ℕ
+  pub stream : Stream (bodies ++ more) partial x.fed
+  pub spelled : SpellsItems true (items_in c past.order) bodies
+  pub all_taken : x.is_over ≡ false → more ≡ []
+  pub behind : AreBehind (past.told c) x.heard
+
+-- ---- what follows
+
+-- no ending but that of a limit, of a malformed frame of the client, of the caller, and of the close
+unfoldable pub IsHonestEnd : Option Ending → Type 0
+IsHonestEnd None = Unit {0}
+IsHonestEnd (Some (endings.ClientTooLong z)) = Unit {0}
+IsHonestEnd (Some (endings.ClientMalformed refusal)) = Unit {0}
+IsHonestEnd (Some (endings.StoreTooLong z)) = pos store_limit <ℤ z
+IsHonestEnd (Some (endings.QueueFull weight)) = Unit {0}
+IsHonestEnd (Some endings.IvSpent) = Unit {0}
+IsHonestEnd (Some endings.Closed) = Unit {0}
+IsHonestEnd (Some e) = IsGivenEnding e
+
+-- the last of these items is a closeSession
+unfoldable pub EndsInClose : List Item → Type 0
+EndsInClose [] = ⊥
+EndsInClose (Requests xid Close ∷ []) = Unit {0}
+EndsInClose (item ∷ items) = EndsInClose items
+
+-- the request is sealed under some IVs
+pub record IsVeiled (k : EntryKeys) (plain veiled : Request) : Type 0 where
+  pub ivs : List (List ℕ)
+  pub twelve : All (λ iv. length iv ≡ 12) ivs
+  pub veil : Veil k ivs plain veiled
+
+-- a plain entry, and the store's: the request of a Take is veiled, and all else is the same
+unfoldable pub VeilsEntry : EntryKeys → Entry → Entry → Type 0
+VeilsEntry k (Take c xid asked zxid now) (Take d number veiled at then_) = (c ≡ d) × (xid ≡ number) × IsVeiled k asked veiled × (zxid ≡ at) × (now ≡ then_)
+VeilsEntry k (Take c xid asked zxid now) f = ⊥
+VeilsEntry k e f = e ≡ f
+
+-- What connection c comes to, where `plain_order` is the order filled with what the clients sent, and `acts` what it is to the plain machine.
+pub record IsServed (k : EntryKeys) (boot c : ℕ) (past : Past) (plain_order : List Entry) (acts : List Act) (x : Connection) (items : List Item) (under_way unfed : List ℕ) : Type 0 where
+  -- the client received the first of the bytes that the plain machine sends it, and nothing was found wrong with a reply
+  pub left : List ℕ
+  pub received : Messages (out plain acts c) (bytes_of x.stand.down ++ left)
+  pub nothing_found : x.stand.findings ≡ []
+  pub honest : IsHonestEnd x.stand.ending
+  -- what was handed up are the first items that the client sent, veiled with IVs counted from 0
+  pub kept : IsFront x.stand.items items
+  pub veiled : List Item
+  pub each : VeilsFrom k boot c 0 x.stand.items veiled
+  pub as_many : length veiled ≡ length x.stand.items
+  pub spelled : SpellsItems true veiled x.stand.up
+  -- the store's entries hold the first of these, and the filled ones the first items that the client sent
+  pub taken_up : IsFront (items_in c past.order) veiled
+  pub filled_with : IsFront (items_in c plain_order) items
+  -- all of it, once nothing waits and nothing is under way
+  pub all_received : x.stand.ending ≡ None → past.waiting c ≡ [] → left ≡ []
+  pub all_handed_up : x.stand.ending ≡ None → under_way ≡ [] → x.stand.items ≡ items
+  pub all_taken : x.stand.ending ≡ None → under_way ≡ [] → unfed ≡ [] → x.is_over ≡ false → items_in c plain_order ≡ items
+  -- and where the session was closed, nothing more comes
+  pub closed : x.stand.ending ≡ Some endings.Closed → (left ≡ []) × EndsInClose (items_in c plain_order)
+
+-- The order, filled with what the clients sent, may be that of the plain machine with the same passwords; the store's requests are
+-- its requests, veiled; and each connection is served.
+pub record Headline (k : EntryKeys) (boot : ℕ) (passwords : ℤ → List ℕ) (past : Past) (x : ℕ → Connection) (items : ℕ → List Item) (under_way unfed : ℕ → List ℕ) : Type 0 where
+  pub plain_order : List Entry
+  pub fills : Fills past.order items plain_order
+  pub acts : List Act
+  pub legal : Legal plain passwords plain_order acts
+  pub veils : Zips (VeilsEntry k) plain_order past.order
+  pub served : (c : ℕ) → IsServed k boot c past plain_order acts (x c) (items c) (under_way c) (unfed c)
+
+-- For every store that follows the machine with the names of a counter enclave under the same keys, and every connection joined to it.
+abbrev pub HoldsOverSessions : Type 0
+HoldsOverSessions = (k : EntryKeys) (boot : ℕ) (naming : Naming) (passwords : ℤ → List ℕ) (past : Past) (x : ℕ → Connection) (items : ℕ → List Item) (under_way unfed : ℕ → List ℕ)
+    → AreKeys k.names → IsNaming (IsSealedName k.names) naming → Follows naming passwords past
+    → ((c : ℕ) → IsJoined k boot c past (x c) (items c) (under_way c) (unfed c))
+    → Headline k boot passwords past x items under_way unfed

@@ -1,0 +1,2 @@
+pub mod Zipping
+pub mod MessageLemmas
