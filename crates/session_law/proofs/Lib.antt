@@ -1,7 +1,4 @@
-pub mod OneSession
+pub mod Words
 pub mod Orders
 pub mod Filling
-pub mod LawOver
 pub mod Begun
-pub mod Drained
-pub mod Whole
