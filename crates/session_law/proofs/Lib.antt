@@ -2,3 +2,5 @@ pub mod Words
 pub mod Orders
 pub mod Filling
 pub mod Begun
+pub mod Held
+pub mod Closing
