@@ -4,3 +4,5 @@ pub mod Filling
 pub mod Begun
 pub mod Held
 pub mod Closing
+pub mod OneBody
+pub mod Pieces
