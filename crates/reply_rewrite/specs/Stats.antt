@@ -17,10 +17,14 @@ pub record IsPlainStat (path : List (List ℕ)) (stored plain : Stat) : Type 0 w
   pub plain_length : IsPlainLength path stored.length plain.length
   pub same_rest : plain ≡ record stored { length = plain.length }
 
+-- no payload there has the length
+abbrev pub HasNoLength : List (List ℕ) → Stat → Type 0
+HasNoLength path stored = (plain : ℤ) → IsPlainLength path stored.length plain → ⊥
+
 -- the store tells a length that no payload there has
 pub record HasBadLength (path : List (List ℕ)) (stored : Stat) (told : ℤ) : Type 0 where
   pub is_told : told ≡ stored.length
-  pub unfit : (plain : ℤ) → IsPlainLength path stored.length plain → ⊥
+  pub unfit : HasNoLength path stored
 
 -- the payload is accepted for the path, and the Stat has the length of its content
 pub record IsPlainContent (key : List ℕ) (path : List (List ℕ)) (payload : Option (List ℕ)) (stored : Stat) (content : Option (List ℕ)) (plain : Stat) : Type 0 where

@@ -191,6 +191,8 @@ op_grown : (k : EntryKeys) (ivs : List (List ℕ)) (r v : Op) → AreIvs12 ivs �
 unfolding VeilsOp
 op_grown k ivs (ops.Create r) (ops.Create v) all x = omega (arith, create_grown k ivs r v all x)
 op_grown k ivs (ops.Create r) other all x = absurd x
+op_grown k ivs (ops.Create2 r) (ops.Create2 v) all x = omega (arith, create_grown k ivs r v all x)
+op_grown k ivs (ops.Create2 r) other all x = absurd x
 op_grown k ivs (ops.Delete r) (ops.Delete v) all x = omega (arith, delete_grown k.names r v x.0)
 op_grown k ivs (ops.Delete r) other all x = absurd x
 op_grown k ivs (ops.SetContent r) (ops.SetContent v) all x = omega (arith, content_grown k ivs r v all x)
@@ -227,6 +229,8 @@ form_grown : (k : EntryKeys) (ivs : List (List ℕ)) (r v : Request) → AreIvs1
 unfolding Veils
 form_grown k ivs (requests.Create r) (requests.Create v) all x = create_grown k ivs r v all x
 form_grown k ivs (requests.Create r) other all x = absurd x
+form_grown k ivs (requests.Create2 r) (requests.Create2 v) all x = create_grown k ivs r v all x
+form_grown k ivs (requests.Create2 r) other all x = absurd x
 form_grown k ivs (requests.Delete r) (requests.Delete v) all x = delete_grown k.names r v x.0
 form_grown k ivs (requests.Delete r) other all x = absurd x
 form_grown k ivs (requests.Exists r) (requests.Exists v) all x = watch_grown k.names r v x.0

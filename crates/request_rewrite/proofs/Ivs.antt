@@ -27,6 +27,7 @@ no_iv s = refl
 few : (op : Op) → payloads_of_op op ≤ 1
 unfolding payloads_of_op
 few (ops.Create r) = omega arith
+few (ops.Create2 r) = omega arith
 few (ops.Delete r) = omega arith
 few (ops.SetContent r) = omega arith
 few (ops.Check r) = omega arith
@@ -45,6 +46,7 @@ payloads_fit list h = omega (arith, h, few_payloads list)
 more_ivs : (s : Ivs) (used : ℕ) (op : Op) → ivs_from s (used + payloads_of_op op) ≡ ivs_from s used ++ ivs_of_op s used op
 unfolding ivs_from payloads_of_op ivs_of_op
 more_ivs s used (ops.Create r) = ap (ivs_from s) (add-one used)
+more_ivs s used (ops.Create2 r) = ap (ivs_from s) (add-one used)
 more_ivs s used (ops.Delete r) = ap (ivs_from s) (add-zero used) ∙ sym (append-nil (ivs_from s used))
 more_ivs s used (ops.SetContent r) = ap (ivs_from s) (add-one used)
 more_ivs s used (ops.Check r) = ap (ivs_from s) (add-zero used) ∙ sym (append-nil (ivs_from s used))

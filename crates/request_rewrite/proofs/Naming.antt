@@ -3,8 +3,9 @@ use Rattle.std.proofs.Common.{◌≡◌, ◌≤◌, ℕ, ℤ, Bool, true, false,
 use Rattle.std.proofs.lemmas.Bool.{false≢true}
 use Rattle.zk_path.specs.Paths.{IsStem, IsPathText, IsStemText, joined, text_of}
 use Rattle.path_seal.specs.Sealed.{Keys, SealPath, SealStem, sealed}
-use Rattle.watch_rewrite.specs.Watches.{IsShortText, SealsText}
+use Rattle.watch_rewrite.specs.Watches.{SealsText}
 use Rattle.zk_messages.specs.Refuses.{IsNameFor, IsSequential}
+use Rattle.zk_messages.specs.Short.{IsShort}
 use Rattle.request_rewrite.specs.Names.{IsPathOf, IsNameOf, SealNameOf}
 use Rattle.zk_messages.proofs.Allowed.{stem_for, path_for}
 
@@ -13,10 +14,10 @@ unfolding text_of
 stem_text [] h = absurd h
 stem_text (n ∷ p) h = refl
 
-pub path_short : (text : List ℕ) (path : List (List ℕ)) → IsPathOf text path → IsShortText text → length (text_of path) ≤ 268435456
+pub path_short : (text : List ℕ) (path : List (List ℕ)) → IsPathOf text path → IsShort text → length (text_of path) ≤ 268435456
 path_short text path h short = omega (arith, short, ap length h.spelled)
 
-pub name_short : (flags : ℤ) (text : List ℕ) (sequential : Bool) (path : List (List ℕ)) → IsNameOf flags text sequential path → IsShortText text → length (text_of path) ≤ 268435456
+pub name_short : (flags : ℤ) (text : List ℕ) (sequential : Bool) (path : List (List ℕ)) → IsNameOf flags text sequential path → IsShort text → length (text_of path) ≤ 268435456
 unfolding IsNameOf
 name_short flags text true path h short = omega (arith, short, ap length h.2, ap length (stem_text path h.1))
 name_short flags text false path h short = omega (arith, short, ap length h.2)

@@ -133,6 +133,9 @@ unfolding VeilsOp
 op_once k ivs (ops.Create r) (ops.Create v) (ops.Create w) x y = ap ops.Create (create_once k ivs r v w x y)
 op_once k ivs (ops.Create r) (ops.Create v) other x y = absurd y
 op_once k ivs (ops.Create r) other w x y = absurd x
+op_once k ivs (ops.Create2 r) (ops.Create2 v) (ops.Create2 w) x y = ap ops.Create2 (create_once k ivs r v w x y)
+op_once k ivs (ops.Create2 r) (ops.Create2 v) other x y = absurd y
+op_once k ivs (ops.Create2 r) other w x y = absurd x
 op_once k ivs (ops.Delete r) (ops.Delete v) (ops.Delete w) x y = ap ops.Delete (delete_once k.names r v w x.0 y.0)
 op_once k ivs (ops.Delete r) (ops.Delete v) other x y = absurd y
 op_once k ivs (ops.Delete r) other w x y = absurd x
@@ -147,6 +150,8 @@ op_ivs : (k : EntryKeys) (ivs : List (List ℕ)) (r v : Op) → VeilsOp k ivs r 
 unfolding VeilsOp payloads_of_op
 op_ivs k ivs (ops.Create r) (ops.Create v) x = ap length x.one_iv
 op_ivs k ivs (ops.Create r) other x = absurd x
+op_ivs k ivs (ops.Create2 r) (ops.Create2 v) x = ap length x.one_iv
+op_ivs k ivs (ops.Create2 r) other x = absurd x
 op_ivs k ivs (ops.Delete r) (ops.Delete v) x = ap length x.1
 op_ivs k ivs (ops.Delete r) other x = absurd x
 op_ivs k ivs (ops.SetContent r) (ops.SetContent v) x = ap length x.one_iv
@@ -174,6 +179,9 @@ unfolding Veils
 form_once k ivs (requests.Create r) (requests.Create v) (requests.Create w) x y = ap requests.Create (create_once k ivs r v w x y)
 form_once k ivs (requests.Create r) (requests.Create v) other x y = absurd y
 form_once k ivs (requests.Create r) other w x y = absurd x
+form_once k ivs (requests.Create2 r) (requests.Create2 v) (requests.Create2 w) x y = ap requests.Create2 (create_once k ivs r v w x y)
+form_once k ivs (requests.Create2 r) (requests.Create2 v) other x y = absurd y
+form_once k ivs (requests.Create2 r) other w x y = absurd x
 form_once k ivs (requests.Delete r) (requests.Delete v) (requests.Delete w) x y = ap requests.Delete (delete_once k.names r v w x.0 y.0)
 form_once k ivs (requests.Delete r) (requests.Delete v) other x y = absurd y
 form_once k ivs (requests.Delete r) other w x y = absurd x

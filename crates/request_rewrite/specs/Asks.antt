@@ -17,6 +17,7 @@ use Rattle.request_rewrite.specs.Veil.{Veils}
 -- what an operation of a multi asks
 unfoldable pub AsksOp : Op → AskedOp → Type 0
 AsksOp (ops.Create r) (op_asks.Create path sequential) = IsNameOf r.flags r.path sequential path
+AsksOp (ops.Create2 r) (op_asks.Create2 path sequential) = IsNameOf r.flags r.path sequential path
 AsksOp (ops.Delete r) op_asks.Delete = Unit {0}
 AsksOp (ops.SetContent r) (op_asks.SetContent path) = IsPathOf r.path path
 AsksOp (ops.Check r) op_asks.Check = Unit {0}
@@ -25,6 +26,7 @@ AsksOp r asked = ⊥
 -- what a request asks that is not refused
 unfoldable pub AsksPlain : Request → Asked → Type 0
 AsksPlain (requests.Create r) (asks.Create path sequential) = IsNameOf r.flags r.path sequential path
+AsksPlain (requests.Create2 r) (asks.Create2 path sequential) = IsNameOf r.flags r.path sequential path
 AsksPlain (requests.Delete r) asks.Empty = Unit {0}
 AsksPlain (requests.Exists r) (asks.StatOf path) = IsPathOf r.path path
 AsksPlain (requests.GetContent r) (asks.Content path) = IsPathOf r.path path

@@ -34,7 +34,7 @@ pub(crate) fn payloads_of_op(op: &Op) -> u64
     ensures { result ≡ payloads_of_op op.now }
 {
     match op {
-        Op::Create(_) | Op::SetContent(_) => 1,
+        Op::Create(_) | Op::Create2(_) | Op::SetContent(_) => 1,
         Op::Delete(_) | Op::Check(_) => 0,
     }
 }
@@ -63,6 +63,17 @@ fn veil_op(
             };
             Ok(VeiledOp {
                 op: Op::Create(veiled.create),
+                asked,
+            })
+        }
+        Op::Create2(create) => {
+            let veiled = veil_create(alloc, keys, ivs.ahead(used), create)?;
+            let asked = AskedOp::Create2 {
+                path: veiled.path,
+                sequential: veiled.sequential,
+            };
+            Ok(VeiledOp {
+                op: Op::Create2(veiled.create),
                 asked,
             })
         }

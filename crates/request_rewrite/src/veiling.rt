@@ -10,7 +10,7 @@ ghost use Rattle.request_rewrite.specs.Veil.{Veil, stand_in};
 
 use crate::ops::payloads_of_op;
 use crate::requests::{
-    Veiled, veil_close, veil_create, veil_delete, veil_exists, veil_get_acl, veil_get_children,
+    Veiled, veil_close, veil_create, veil_create2, veil_delete, veil_exists, veil_get_acl, veil_get_children,
     veil_get_children2, veil_get_content, veil_multi, veil_ping, veil_set_acl, veil_set_content,
     veil_sync, veil_watches,
 };
@@ -58,7 +58,7 @@ fn payloads_of(request: &Request) -> u64
     ensures { result ≡ payloads_of request.now }
 {
     match request {
-        Request::Create(_) | Request::SetContent(_) => 1,
+        Request::Create(_) | Request::Create2(_) | Request::SetContent(_) => 1,
         Request::Multi(ops) => payloads_of_ops(ops.as_slice()),
         _ => 0,
     }
@@ -89,6 +89,7 @@ fn veil_allowed(
 {
     match request {
         Request::Create(request) => veil_create(alloc, keys, ivs.ahead(0), request),
+        Request::Create2(request) => veil_create2(alloc, keys, ivs.ahead(0), request),
         Request::Delete(request) => veil_delete(alloc, keys, request),
         Request::Exists(request) => veil_exists(alloc, keys, request),
         Request::GetContent(request) => veil_get_content(alloc, keys, request),
