@@ -39,6 +39,7 @@ unfolding IsPlain
 plain_shaped k asks.Empty outcomes.Empty outcomes.Empty h = tt
 plain_shaped k asks.Close outcomes.Empty outcomes.Empty h = tt
 plain_shaped k (asks.Create path sequential) (outcomes.Path text) (outcomes.Path plain) h = tt
+plain_shaped k (asks.Create2 path sequential) (outcomes.Created2 text stored) (outcomes.Created2 made plain) h = tt
 plain_shaped k (asks.StatOf path) (outcomes.Stat stored) (outcomes.Stat plain) h = tt
 plain_shaped k (asks.Content path) (outcomes.Content payload stored) (outcomes.Content content plain) h = tt
 plain_shaped k (asks.AclOf path) (outcomes.Acls acls stored) (outcomes.Acls same plain) h = tt
@@ -112,6 +113,7 @@ unfolding IsPlainResult
 result_short k true op (op_results.Error code) p h l = subst IsShortResult (sym h) tt
 result_short k true op s p h l = absurd h
 result_short k false (ops.Create path sequential) (op_results.Created text) (op_results.Created plain) h l = created_short k path sequential text plain h l
+result_short k false (ops.Create2 path sequential) (op_results.Created2 text stored) (op_results.Created2 made plain) h l = created_short k path sequential text made h.0 l
 result_short k false ops.Delete op_results.Deleted op_results.Deleted h l = tt
 result_short k false (ops.SetContent path) (op_results.Changed stored) (op_results.Changed plain) h l = tt
 result_short k false ops.Check op_results.Checked op_results.Checked h l = tt
@@ -132,6 +134,7 @@ unfolding IsPlain
 plain_short k asks.Empty outcomes.Empty outcomes.Empty h l = tt
 plain_short k asks.Close outcomes.Empty outcomes.Empty h l = tt
 plain_short k (asks.Create path sequential) (outcomes.Path text) (outcomes.Path plain) h l = created_short k.names path sequential text plain h l
+plain_short k (asks.Create2 path sequential) (outcomes.Created2 text stored) (outcomes.Created2 made plain) h l = created_short k.names path sequential text made h.0 l
 plain_short k (asks.StatOf path) (outcomes.Stat stored) (outcomes.Stat plain) h l = tt
 plain_short k (asks.Content path) (outcomes.Content payload stored) (outcomes.Content content plain) h l = content_short k.payloads path payload content h.accepted l
 plain_short k (asks.AclOf path) (outcomes.Acls acls stored) (outcomes.Acls same plain) h l = subst (λ a. IsShortOutcome (outcomes.Acls a plain)) (sym h.1) l

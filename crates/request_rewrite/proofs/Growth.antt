@@ -9,7 +9,7 @@ use Rattle.sha2.proofs.Facts256.{length-sha256}
 use Rattle.gcm_mode.specs.Gcm.{Gcm, text_under, gcm_tag}
 use Rattle.gcm_mode.proofs.Counting.{length-text_under, length-gcm_tag}
 use Rattle.jute_core.specs.Jute.{buffer, ustring, vector}
-use Rattle.zk_path.specs.Paths.{IsComponent, IsPath, IsStem, joined, text_of}
+use Rattle.zk_path.specs.Paths.{IsComponent, IsNamed, IsPath, IsStem, joined, text_of}
 use Rattle.path_seal.specs.Sealed.{Keys, SealName, sealed, SealPath, SealStem}
 use Rattle.path_seal.proofs.NameBytes.{length-SealName}
 use Rattle.payload_seal.specs.Payload.{SealData, plain_payload, flag_of, content_of}
@@ -83,12 +83,15 @@ stem_growth k (n ∷ p) h = omega (
 )
 
 path_grown : (k : Keys) (plain veiled : List ℕ) → SealsText k plain veiled → length veiled ≤ 30 * length plain
-path_grown k plain veiled h = omega (arith, ap length h.is_sealed, ap length h.spelled, text_growth k h.path h.legal)
+path_grown k plain veiled h = omega (arith, ap length h.is_sealed, ap length h.named.spelled, text_growth k h.path h.named.legal)
+
+named_grown : (k : Keys) (text : List ℕ) (sequential : Bool) (p : List (List ℕ)) → IsNamed sequential text p → length (SealNameOf k sequential p) ≤ 30 * length text + 27
+unfolding IsNamed SealNameOf
+named_grown k text true p h = omega (arith, ap length h.1, stem_growth k p h.0)
+named_grown k text false p h = omega (arith, ap length h.spelled, text_growth k p h.legal)
 
 name_grown : (k : Keys) (flags : ℤ) (text : List ℕ) (sequential : Bool) (p : List (List ℕ)) → IsNameOf flags text sequential p → length (SealNameOf k sequential p) ≤ 30 * length text + 27
-unfolding IsNameOf SealNameOf
-name_grown k flags text true p h = omega (arith, ap length h.2, stem_growth k p h.1)
-name_grown k flags text false p h = omega (arith, ap length h.2, text_growth k p h.1)
+name_grown k flags text sequential p h = named_grown k text sequential p h.named
 
 -- ---- how long a payload is
 
@@ -260,7 +263,7 @@ form_grown k ivs requests.Close other all x = absurd x
 form_grown k ivs (requests.Auth body) other all x = absurd x
 form_grown k ivs (requests.Unknown kind body) other all x = absurd x
 
-veil_grown : (k : EntryKeys) (ivs : List (List ℕ)) (r v : Request) → AreIvs12 ivs → Veil k ivs r v → request_size v + 8 ≤ 30 * (request_size r + 8)
+pub veil_grown : (k : EntryKeys) (ivs : List (List ℕ)) (r v : Request) → AreIvs12 ivs → Veil k ivs r v → request_size v + 8 ≤ 30 * (request_size r + 8)
 unfolding Veil
 veil_grown k ivs r v all (inl x) = omega (arith, ap request_size x.2)
 veil_grown k ivs r v all (inr x) = omega (arith, form_grown k ivs r v all x.1)

@@ -1,9 +1,9 @@
 //! The records of requests, sealed.
 
 ghost use Rattle.std.specs.Prelude.{◌≡◌, ◌∷◌, [], None, IfOk};
-ghost use Rattle.zk_path.specs.Paths.{IsPathText};
+ghost use Rattle.zk_path.specs.Paths.{IsPathText, IsTextOf};
 ghost use Rattle.zk_messages.specs.Refuses.{RefusesCreate, RefusesSetAcl};
-ghost use Rattle.request_rewrite.specs.Names.{IsPathOf, IsNameOf};
+ghost use Rattle.request_rewrite.specs.Names.{IsNameOf};
 ghost use Rattle.zk_messages.specs.Short.{IsShort, IsShortContent};
 ghost use Rattle.request_rewrite.specs.Veil.{VeilsCreate, VeilsSetContent, VeilsDelete, VeilsCheck};
 ghost use Rattle.request_rewrite.specs.Veil.{VeilsPathWatch, VeilsPathOnly, VeilsSetAcl};
@@ -70,7 +70,7 @@ pub(crate) fn veil_set_content(
     requires path { IsShort request.now.path }
     requires content { IsShortContent request.now.content }
     ensures veiled { IfOk result (λ x. VeilsSetContent keys.now (iv ∷ []) request.now x.0) }
-    ensures named { IfOk result (λ x. IsPathOf request.now.path x.1) }
+    ensures named { IfOk result (λ x. IsTextOf request.now.path x.1) }
 {
     let name = veil_path(alloc, &keys.names, &request.path)?;
     let plain = bytes_of(&request.content);
@@ -127,7 +127,7 @@ pub(crate) fn veil_path_watch(
     requires legal { IsPathText request.now.path }
     requires short { IsShort request.now.path }
     ensures veiled { IfOk result (λ x. VeilsPathWatch keys.now request.now x.0) }
-    ensures named { IfOk result (λ x. IsPathOf request.now.path x.1) }
+    ensures named { IfOk result (λ x. IsTextOf request.now.path x.1) }
 {
     let name = veil_path(alloc, keys, &request.path)?;
     let veiled = PathWatch {
@@ -147,7 +147,7 @@ pub(crate) fn veil_path_only(
     requires legal { IsPathText request.now.path }
     requires short { IsShort request.now.path }
     ensures veiled { IfOk result (λ x. VeilsPathOnly keys.now request.now x.0) }
-    ensures named { IfOk result (λ x. IsPathOf request.now.path x.1) }
+    ensures named { IfOk result (λ x. IsTextOf request.now.path x.1) }
 {
     let name = veil_path(alloc, keys, &request.path)?;
     let veiled = PathOnly { path: name.veiled };
@@ -164,7 +164,7 @@ pub(crate) fn veil_set_acl(
     requires allowed { RefusesSetAcl request.now None }
     requires short { IsShort request.now.path }
     ensures veiled { IfOk result (λ x. VeilsSetAcl keys.now request.now x.0) }
-    ensures named { IfOk result (λ x. IsPathOf request.now.path x.1) }
+    ensures named { IfOk result (λ x. IsTextOf request.now.path x.1) }
 {
     let name = veil_path(alloc, keys, &request.path)?;
     let veiled = SetAclRequest {

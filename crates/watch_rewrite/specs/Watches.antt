@@ -1,15 +1,14 @@
 -- The sealed form of a setWatches: each path sealed at its place, and nothing else changed.
 use Rattle.std.specs.Prelude.{◌≡◌, ℕ, List, Option, Some, None, All, IfSome}
 use Rattle.std.specs.List.{AllZip}
-use Rattle.zk_path.specs.Paths.{IsPath, text_of}
+use Rattle.zk_path.specs.Paths.{IsTextOf}
 use Rattle.path_seal.specs.Sealed.{Keys, SealPath}
 use Rattle.zk_records.specs.declared.set_watches.SetWatches.{SetWatches}
 
 -- a legal path's text, and what the path is sealed to
 pub record SealsText (k : Keys) (plain veiled : List ℕ) : Type 0 where
   pub path : List (List ℕ)
-  pub legal : IsPath path
-  pub spelled : plain ≡ text_of path
+  pub named : IsTextOf plain path
   pub is_sealed : veiled ≡ SealPath k path
 
 -- so many texts, and each sealed at its place
