@@ -34,20 +34,20 @@ stat_judged path stored = by_length (length_judged path stored.length)
     by_length (inl h) = inl (stat_with path stored h.0 h.1)
     by_length (inr f) = inr (record { is_told = refl; unfit = f })
 
-abbrev pub ContentOrCause : List ℕ → List (List ℕ) → Option (List ℕ) → Stat → Type 0
-ContentOrCause key path payload stored =
-    ((content : Option (List ℕ)) × (plain : Stat) × IsPlainContent key path payload stored content plain) ⊎ ((c : Cause) × IsContentCause key path payload stored c)
+abbrev pub ContentOrCause : List (List ℕ) → List (List ℕ) → Option (List ℕ) → Stat → Type 0
+ContentOrCause keys path payload stored =
+    ((content : Option (List ℕ)) × (plain : Stat) × IsPlainContent keys path payload stored content plain) ⊎ ((c : Cause) × IsContentCause keys path payload stored c)
 
-content_by_length : (key : List ℕ) (path : List (List ℕ)) (payload : Option (List ℕ)) (stored : Stat) (content : Option (List ℕ)) → Accepts key path (content_of payload) content → Dec (IsPlainLength path stored.length (pos (length (content_of content)))) → ContentOrCause key path payload stored
-content_by_length key path payload stored content h (yes fits) =
+content_by_length : (keys path : List (List ℕ)) (payload : Option (List ℕ)) (stored : Stat) (content : Option (List ℕ)) → Accepts keys path (content_of payload) content → Dec (IsPlainLength path stored.length (pos (length (content_of content)))) → ContentOrCause keys path payload stored
+content_by_length keys path payload stored content h (yes fits) =
     inl (content, record stored { length = pos (length (content_of content)) }, record { accepted = h; stat = record { plain_length = fits; same_rest = refl }; fits = refl })
-content_by_length key path payload stored content h (no f) = inr (causes.Length stored.length, record { content = content; accepted = h; is_told = refl; unfit = f })
+content_by_length keys path payload stored content h (no f) = inr (causes.Length stored.length, record { content = content; accepted = h; is_told = refl; unfit = f })
 
-pub content_judged : (key : List ℕ) (path : List (List ℕ)) (payload : Option (List ℕ)) (stored : Stat) → ContentOrCause key path payload stored
-content_judged key path payload stored = by_payload (judged_once.one_of key path (content_of payload))
+pub content_judged : (keys path : List (List ℕ)) (payload : Option (List ℕ)) (stored : Stat) → ContentOrCause keys path payload stored
+content_judged keys path payload stored = by_payload (judged_once.one_of keys path (content_of payload))
   where
-    by_payload : ((d : Option (List ℕ)) × Accepts key path (content_of payload) d) ⊎ ((f : Flaw) × HasFlaw key path payload f) → ContentOrCause key path payload stored
-    by_payload (inl h) = content_by_length key path payload stored h.0 h.1 (dec_length path stored.length (pos (length (content_of h.0))))
+    by_payload : ((d : Option (List ℕ)) × Accepts keys path (content_of payload) d) ⊎ ((f : Flaw) × HasFlaw keys path payload f) → ContentOrCause keys path payload stored
+    by_payload (inl h) = content_by_length keys path payload stored h.0 h.1 (dec_length path stored.length (pos (length (content_of h.0))))
     by_payload (inr h) = inr (causes.Payload h.0, h.1)
 
 -- ---- names of children

@@ -76,8 +76,8 @@ created_short k asked sequential text plain h l = omega (arith, l, ap length h.s
 synced_short : (k : Keys) (path : List (List ℕ)) (text plain : List ℕ) → IsSynced k path text plain → length text < 2 ^ 31 → length plain < 2 ^ 31
 synced_short k path text plain h l = omega (arith, l, ap length h.spelled, ap length h.opened.1, path_shorter k path)
 
-accepted_shorter : (key : List ℕ) (path : List (List ℕ)) (payload : List ℕ) (content : Option (List ℕ)) → Accepts key path payload content → length (content_of content) ≤ length payload
-accepted_shorter key path payload content h =
+accepted_shorter : (keys path : List (List ℕ)) (payload : List ℕ) (content : Option (List ℕ)) → Accepts keys path payload content → length (content_of content) ≤ length payload
+accepted_shorter keys path payload content h =
     let one_more : length (h.digest ++ content_of content) < length payload = omega (arith, opened_size h.opened) in
     omega (arith, one_more, length-append h.digest (content_of content))
 
@@ -85,9 +85,9 @@ payload_short : (payload : Option (List ℕ)) → IfSome payload (λ b. length b
 payload_short None h = omega arith
 payload_short (Some bytes) h = h
 
-content_short : (key : List ℕ) (path : List (List ℕ)) (payload content : Option (List ℕ)) → Accepts key path (content_of payload) content → IfSome payload (λ b. length b < 2 ^ 31) → IfSome content (λ b. length b < 2 ^ 31)
-content_short key path payload None h l = tt
-content_short key path payload (Some bytes) h l = omega (arith, accepted_shorter key path (content_of payload) (Some bytes) h, payload_short payload l)
+content_short : (keys path : List (List ℕ)) (payload content : Option (List ℕ)) → Accepts keys path (content_of payload) content → IfSome payload (λ b. length b < 2 ^ 31) → IfSome content (λ b. length b < 2 ^ 31)
+content_short keys path payload None h l = tt
+content_short keys path payload (Some bytes) h l = omega (arith, accepted_shorter keys path (content_of payload) (Some bytes) h, payload_short payload l)
 
 all_of : (P : List ℕ → Type 0) (xs : List (List ℕ)) → ((q : List ℕ) → IsOneOf q xs → P q) → All P xs
 all_of P [] f = All-nil P

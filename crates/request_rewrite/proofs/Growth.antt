@@ -12,6 +12,7 @@ use Rattle.jute_core.specs.Jute.{buffer, ustring, vector}
 use Rattle.zk_path.specs.Paths.{IsComponent, IsNamed, IsPath, IsStem, joined, text_of}
 use Rattle.path_seal.specs.Sealed.{Keys, SealName, sealed, SealPath, SealStem}
 use Rattle.path_seal.proofs.NameBytes.{length-SealName}
+use Rattle.payload_seal.specs.Keys.{epoch_of, key_of}
 use Rattle.payload_seal.specs.Payload.{SealData, plain_payload, flag_of, content_of}
 use Rattle.payload_seal.specs.declared.keys.EntryKeys.{EntryKeys}
 use Rattle.watch_rewrite.specs.Watches.{SealsText, SealsList, VeilsWatches}
@@ -95,9 +96,10 @@ name_grown k flags text sequential p h = named_grown k text sequential p h.named
 
 -- ---- how long a payload is
 
-sealed_size : (key iv : List ℕ) (p : List (List ℕ)) (sequential : Bool) (d : Option (List ℕ)) → length iv ≡ 12 → length (SealData key iv p sequential d) ≡ length (content_of d) + 61
+sealed_size : (keys : List (List ℕ)) (iv : List ℕ) (p : List (List ℕ)) (sequential : Bool) (d : Option (List ℕ)) → length iv ≡ 12 → length (SealData keys iv p sequential d) ≡ length (content_of d) + 61
 unfolding SealData plain_payload
-sealed_size key iv p sequential d size_of =
+sealed_size keys iv p sequential d size_of =
+    let key = key_of keys (epoch_of iv) in
     let plain : List ℕ = flag_of sequential d ∷ (sha256 (text_of p) ++ content_of d) in
     let one_more : length plain ≡ suc (length (sha256 (text_of p) ++ content_of d)) = refl in
     omega (
@@ -122,8 +124,8 @@ AreIvs12 ivs = All (λ iv. length iv ≡ 12) ivs
 the_iv : (ivs : List (List ℕ)) (iv : List ℕ) → AreIvs12 ivs → ivs ≡ iv ∷ [] → length iv ≡ 12
 the_iv ivs iv all e = All-head (λ x. length x ≡ 12) iv [] (subst AreIvs12 e all)
 
-payload_grown : (key iv : List ℕ) (p : List (List ℕ)) (sequential : Bool) (d veiled : Option (List ℕ)) → length iv ≡ 12 → veiled ≡ Some (SealData key iv p sequential d) → size buffer veiled ≡ size buffer d + 61
-payload_grown key iv p sequential d veiled twelve e = omega (arith, ap (size buffer) e, sealed_size key iv p sequential d twelve, content_size d)
+payload_grown : (keys : List (List ℕ)) (iv : List ℕ) (p : List (List ℕ)) (sequential : Bool) (d veiled : Option (List ℕ)) → length iv ≡ 12 → veiled ≡ Some (SealData keys iv p sequential d) → size buffer veiled ≡ size buffer d + 61
+payload_grown keys iv p sequential d veiled twelve e = omega (arith, ap (size buffer) e, sealed_size keys iv p sequential d twelve, content_size d)
 
 -- ---- records
 

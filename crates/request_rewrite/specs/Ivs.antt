@@ -1,5 +1,5 @@
 -- The IVs that a request takes: one for each of its payloads.
-use Rattle.std.specs.Prelude.{◌≡◌, ◌⊎◌, ℕ, zero, suc, ℤ, ◌+◌, List, [], ◌∷◌, ◌++◌, Some, None, sum_by}
+use Rattle.std.specs.Prelude.{◌≡◌, ◌⊎◌, ℕ, zero, suc, ℤ, ◌+◌, List, [], ◌∷◌, ◌++◌, Some, None, length, sum_by}
 use Rattle.payload_seal.specs.Ivs.{Ivs, payload_iv}
 use Rattle.zk_messages.specs.Refuses.{Refuses}
 use Rattle.zk_messages.specs.declared.request.Op.{Op}
@@ -7,9 +7,13 @@ use Rattle.zk_messages.specs.declared.request.Op.TheVariants as ops
 use Rattle.zk_messages.specs.declared.request.Request.{Request}
 use Rattle.zk_messages.specs.declared.request.Request.TheVariants as requests
 
+-- the source gives IVs for the greatest epoch of the keys
+abbrev pub IsForGreatest : List (List ℕ) → Ivs → Type 0
+IsForGreatest keys source = source.epoch + 1 ≡ length keys
+
 -- the IV that a source gives after so many more
 abbrev pub iv_after : Ivs → ℕ → List ℕ
-iv_after source index = payload_iv source.boot source.connection (source.count + index)
+iv_after source index = payload_iv source.epoch source.boot source.connection (source.count + index)
 
 -- the next n IVs of a source, in order
 unfoldable pub ivs_from : Ivs → ℕ → List (List ℕ)

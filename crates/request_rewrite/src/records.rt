@@ -1,6 +1,7 @@
 //! The records of requests, sealed.
 
-ghost use Rattle.std.specs.Prelude.{◌≡◌, ◌∷◌, [], None, IfOk};
+ghost use Rattle.std.specs.Prelude.{◌≡◌, ◌<◌, ◌∷◌, [], None, length, IfOk};
+ghost use Rattle.payload_seal.specs.Keys.{epoch_of};
 ghost use Rattle.zk_path.specs.Paths.{IsPathText, IsTextOf};
 ghost use Rattle.zk_messages.specs.Refuses.{RefusesCreate, RefusesSetAcl};
 ghost use Rattle.request_rewrite.specs.Names.{IsNameOf};
@@ -35,6 +36,7 @@ pub(crate) fn veil_create(
     iv: [u8; 12],
     create: &CreateRequest,
 ) -> Result<VeiledCreate, Memory>
+    requires epoch { epoch_of iv < length keys.now.payloads }
     requires allowed { RefusesCreate create.now None }
     requires path { IsShort create.now.path }
     requires content { IsShortContent create.now.content }
@@ -66,6 +68,7 @@ pub(crate) fn veil_set_content(
     iv: [u8; 12],
     request: &SetContentRequest,
 ) -> Result<(SetContentRequest, Path), Memory>
+    requires epoch { epoch_of iv < length keys.now.payloads }
     requires legal { IsPathText request.now.path }
     requires path { IsShort request.now.path }
     requires content { IsShortContent request.now.content }

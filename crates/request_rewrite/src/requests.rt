@@ -1,13 +1,14 @@
 //! Each type of request that is not refused: what the store is handed, and what is kept for the reply.
 
-ghost use Rattle.std.specs.Prelude.{◌∷◌, [], None, All, ◌+◌, ◌≤◌, ◌^◌, sum_by, IfOk};
+ghost use Rattle.std.specs.Prelude.{◌∷◌, [], None, All, ◌+◌, ◌≤◌, ◌<◌, ◌^◌, length, sum_by, IfOk};
+ghost use Rattle.payload_seal.specs.Keys.{epoch_of};
 ghost use Rattle.zk_path.specs.Paths.{IsPathText};
 ghost use Rattle.watch_rewrite.specs.Watches.{EachText};
 ghost use Rattle.payload_seal.specs.declared.keys.EntryKeys.{EntryKeys};
 ghost use Rattle.zk_messages.specs.Refuses.{RefusesCreate, RefusesSetAcl};
 ghost use Rattle.zk_messages.specs.declared.request.Request.TheVariants as requests;
 ghost use Rattle.request_rewrite.specs.Asks.{Turns};
-ghost use Rattle.request_rewrite.specs.Ivs.{ivs_from, payloads_of_op};
+ghost use Rattle.request_rewrite.specs.Ivs.{IsForGreatest, ivs_from, payloads_of_op};
 ghost use Rattle.zk_messages.specs.Short.{IsShort, IsShortContent, HasShortOpParts};
 ghost use Rattle.request_rewrite.specs.Veil.{IsAllowedOp};
 
@@ -42,6 +43,7 @@ pub(crate) fn veil_create(
     iv: [u8; 12],
     request: &CreateRequest,
 ) -> Result<Veiled, Memory>
+    requires epoch { epoch_of iv < length keys.now.payloads }
     requires allowed { RefusesCreate request.now None }
     requires path { IsShort request.now.path }
     requires content { IsShortContent request.now.content }
@@ -64,6 +66,7 @@ pub(crate) fn veil_create2(
     iv: [u8; 12],
     request: &CreateRequest,
 ) -> Result<Veiled, Memory>
+    requires epoch { epoch_of iv < length keys.now.payloads }
     requires allowed { RefusesCreate request.now None }
     requires path { IsShort request.now.path }
     requires content { IsShortContent request.now.content }
@@ -86,6 +89,7 @@ pub(crate) fn veil_set_content(
     iv: [u8; 12],
     request: &SetContentRequest,
 ) -> Result<Veiled, Memory>
+    requires epoch { epoch_of iv < length keys.now.payloads }
     requires legal { IsPathText request.now.path }
     requires path { IsShort request.now.path }
     requires content { IsShortContent request.now.content }
@@ -258,6 +262,7 @@ pub(crate) fn veil_multi(
     ivs: &IvSource,
     ops: &Ops,
 ) -> Result<Veiled, Memory>
+    requires epoch { IsForGreatest keys.now.payloads ivs.now }
     requires allowed { All IsAllowedOp ops.now }
     requires short { All HasShortOpParts ops.now }
     requires left { ivs.now.count + sum_by payloads_of_op ops.now ≤ 2 ^ 32 }

@@ -4,7 +4,7 @@ ghost use Rattle.std.specs.Prelude.{◌≡◌, ◌↔◌, ◌+◌, ◌≤◌, �
 ghost use Rattle.zk_messages.specs.Refuses.{Refuses};
 ghost use Rattle.request_queue.specs.Asking.{IsAsked};
 ghost use Rattle.request_rewrite.specs.Asks.{Asks, Turns};
-ghost use Rattle.request_rewrite.specs.Ivs.{ivs_from, payloads_of, payloads_of_op, PayloadsOf};
+ghost use Rattle.request_rewrite.specs.Ivs.{IsForGreatest, ivs_from, payloads_of, payloads_of_op, PayloadsOf};
 ghost use Rattle.zk_messages.specs.Short.{HasShortParts};
 ghost use Rattle.request_rewrite.specs.Veil.{Veil, stand_in};
 
@@ -75,13 +75,14 @@ fn stand_in(alloc: Global) -> Result<Request, Memory>
 }
 
 // A request that is not refused.
-#[tactic(auto, using(crate::proofs::Allowed::allowed), unfolding(crate::specs::Ivs::ivs_from, crate::specs::Ivs::payloads_of, zk_messages::specs::Short::HasShortParts, zk_messages::specs::Refuses::Refuses))]
+#[tactic(auto, using(crate::proofs::Allowed::allowed, crate::proofs::Ivs::epoch_known), unfolding(crate::specs::Ivs::ivs_from, crate::specs::Ivs::payloads_of, zk_messages::specs::Short::HasShortParts, zk_messages::specs::Refuses::Refuses))]
 fn veil_allowed(
     alloc: Global,
     keys: &EntryKeys,
     ivs: &IvSource,
     request: &Request,
 ) -> Result<Veiled, Memory>
+    requires epoch { IsForGreatest keys.now.payloads ivs.now }
     requires allowed { Refuses request.now None }
     requires short { HasShortParts request.now }
     requires left { ivs.now.count + payloads_of request.now ≤ 2 ^ 32 }
@@ -124,7 +125,8 @@ fn form_of(
     ivs: &IvSource,
     request: &Request,
 ) -> Result<Form, NotVeiled>
-    requires { HasShortParts request.now }
+    requires epoch { IsForGreatest keys.now.payloads ivs.now }
+    requires short { HasShortParts request.now }
     ensures number { (n : ℕ) × PayloadsOf request.now n }
     ensures counted { IfOk result (λ x. PayloadsOf request.now x.payloads) }
     ensures left { IfOk result (λ x. ivs.now.count + x.payloads ≤ 2 ^ 32) }
@@ -157,7 +159,8 @@ fn form_of(
 ///
 /// Each name and each payload is sealed, and all else is as it was; a payload takes the next IV of the connection. A request
 /// that is refused becomes `exists "/"` without watch, so that its answer keeps its turn, and takes no IV. Each text and
-/// buffer of the request has at most 134,217,728 bytes. Linear in them, but for what sealing a path costs; each is copied
+/// buffer of the request has at most 134,217,728 bytes, and the IVs are for the greatest epoch of the keys, under whose key each
+/// payload is sealed. Linear in them, but for what sealing a path costs; each is copied
 /// at most once besides.
 ///
 /// # Errors
@@ -172,7 +175,8 @@ pub fn veil_request(
     bytes: u32,
     request: &Request,
 ) -> Result<(Request, Pending), NotVeiled>
-    requires { HasShortParts request.now }
+    requires epoch { IsForGreatest keys.now.payloads ivs.old }
+    requires short { HasShortParts request.now }
     // What the store is handed, and which IVs that took.
     ensures veiled { (n : ℕ) → PayloadsOf request.now n → IfOk result (λ x. Veil keys.now (ivs_from ivs.old n) request.now x.0) }
     ensures taken { (n : ℕ) → PayloadsOf request.now n → OnOk result (ivs.new ≡ record ivs.old { count = ivs.old.count + n }) }
