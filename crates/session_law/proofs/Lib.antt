@@ -1,3 +1,4 @@
+pub mod Words
 pub mod OneSession
 pub mod Orders
 pub mod Filling
