@@ -1,3 +1,5 @@
 pub mod Reading
+pub mod Turns
 pub mod HandedUp
-pub mod SentItems
+pub mod HandedDown
+pub mod OwnIvs

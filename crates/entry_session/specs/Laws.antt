@@ -5,6 +5,7 @@ use Rattle.payload_seal.specs.Ivs.{payload_iv}
 use Rattle.payload_seal.specs.declared.keys.EntryKeys.{EntryKeys}
 use Rattle.entry_session.specs.Heard.{Heard, store_frames}
 use Rattle.entry_session.specs.Stands.{Stand}
+use Rattle.entry_session.specs.ClientTurns.{greatest_epoch}
 use Rattle.entry_session.specs.Runs.{Ran}
 use Rattle.entry_session.specs.Veiled.{Veiled}
 use Rattle.entry_session.specs.declared.ending.Ending.{Ending}
@@ -36,5 +37,6 @@ HandsDownOneForOne = (k : EntryKeys) (boot c : ℕ) (hs : List Heard) (s : Stand
 
 -- no two payloads of the sessions of one boot have one IV
 abbrev pub HaveOwnIvs : Type 0
-HaveOwnIvs = (k : EntryKeys) (boot : ℕ) (hs : ℕ → List Heard) (stand : ℕ → Stand) → ((c : ℕ) → Ran k boot c (hs c) (stand c)) → boot < 2 ^ 24
-    → (c d i j : ℕ) → c < 2 ^ 32 → d < 2 ^ 32 → i < (stand c).sealed → j < (stand d).sealed → payload_iv boot c i ≡ payload_iv boot d j → (c ≡ d) × (i ≡ j)
+HaveOwnIvs = (k : EntryKeys) (boot : ℕ) (hs : ℕ → List Heard) (stand : ℕ → Stand) → ((c : ℕ) → Ran k boot c (hs c) (stand c))
+    → (c d i j : ℕ) → c < 2 ^ 32 → d < 2 ^ 32 → i < (stand c).sealed → j < (stand d).sealed
+    → payload_iv (greatest_epoch k) boot c i ≡ payload_iv (greatest_epoch k) boot d j → (c ≡ d) × (i ≡ j)
