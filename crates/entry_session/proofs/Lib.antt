@@ -3,3 +3,7 @@ pub mod Turns
 pub mod HandedUp
 pub mod HandedDown
 pub mod OwnIvs
+pub mod OneItem
+pub mod OneTurn
+pub mod OneStand
+pub mod SentItems
