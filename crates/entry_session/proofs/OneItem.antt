@@ -1,9 +1,8 @@
 -- A frame of a client is one item, or refused in one way; and a request asks one thing.
-use Rattle.std.proofs.Common.{◌≡◌, ℕ, ℤ, Bool, true, false, List, [], ◌∷◌, Option, Some, None, inl, inr, refl, sym, ap, subst, ◌∙◌, IsTrue, ◌↔◌}
+use Rattle.std.proofs.Common.{◌≡◌, ℕ, ℤ, Bool, true, false, List, [], ◌∷◌, Some, None, inl, inr, refl, sym, ap, ◌∙◌, IsTrue, ◌↔◌}
 use Rattle.std.proofs.lemmas.Bool.{false≢true}
 use Rattle.std.proofs.lemmas.Option.{none-some}
 use Rattle.std.specs.List.{AllZip}
-use Rattle.jute_core.specs.declared.cursor.Reason.{Reason}
 use Rattle.jute_core.specs.declared.cursor.Refusal.{Refusal}
 use Rattle.jute_core.proofs.SameSpelling.{same_bytes}
 use Rattle.zk_path.specs.Paths.{IsTextOf, IsNamed}
@@ -11,7 +10,6 @@ use Rattle.zk_path.proofs.Judged.{one_text, one_stem_text}
 use Rattle.zk_records.proofs.OneConnect.{one_request as one_connect, request_or_refused as connect_or_refused, one_connect_refusal}
 use Rattle.zk_records.specs.Connect.{request_form, request_fields}
 use Rattle.zk_messages.specs.Items.{IsItem}
-use Rattle.zk_messages.specs.Refuses.{Refuses}
 use Rattle.zk_messages.specs.declared.request.Item.{Item}
 use Rattle.zk_messages.specs.declared.request.Item.TheVariants as items
 use Rattle.zk_messages.specs.declared.request.Op.{Op}

@@ -1,10 +1,9 @@
 -- What was heard leads to one stand.
-use Rattle.std.proofs.Common.{◌≡◌, ◌≢◌, ℕ, zero, suc, ℤ, negsuc, ◌+◌, ◌-◌, ◌<◌, List, [], ◌∷◌, ◌++◌, Option, Some, None, length, refl, sym, ap, subst, ◌∙◌, arith}
-use Rattle.jute_core.specs.declared.cursor.Refusal.{Refusal}
+use Rattle.std.proofs.Common.{◌≡◌, ℕ, zero, suc, ℤ, negsuc, ◌+◌, ◌-◌, List, [], ◌∷◌, ◌++◌, Option, Some, None, refl, sym, ap, subst, ◌∙◌}
 use Rattle.path_seal.specs.Sealed.{AreKeys}
 use Rattle.payload_seal.specs.declared.keys.EntryKeys.{EntryKeys}
 use Rattle.zk_records.specs.declared.connect.ConnectRequest.{ConnectRequest}
-use Rattle.zk_messages.specs.Replies.{SpellsReply, RefusedReply, SpellsEvent, BeginsWithInt}
+use Rattle.zk_messages.specs.Replies.{SpellsReply, SpellsEvent, BeginsWithInt}
 use Rattle.zk_messages.specs.declared.reply.Event.{Event}
 use Rattle.zk_messages.specs.declared.reply.Reply.{Reply}
 use Rattle.zk_messages.specs.declared.request.Item.{Item}
@@ -20,7 +19,6 @@ use Rattle.reply_rewrite.specs.Shapes.{shape_for}
 use Rattle.reply_rewrite.specs.declared.finding.Cause.{Cause}
 use Rattle.reply_rewrite.proofs.Once.{at_most_one}
 use Rattle.watch_rewrite.specs.Events.{IsPlainEvent, IsFlawOf}
-use Rattle.watch_rewrite.specs.declared.event.EventFlaw.{EventFlaw}
 use Rattle.watch_rewrite.proofs.Judged.{judged_once}
 use Rattle.entry_session.specs.Heard.{Heard, from_client, from_store, bad_client, bad_store, given}
 use Rattle.entry_session.specs.Laws.{LeadsToOne}
@@ -29,7 +27,6 @@ use Rattle.entry_session.specs.Stands.{Stand, ends}
 use Rattle.entry_session.specs.StoreTurns.{item_at, ending_by, found, UnaskedTurn, ConnectTurn, EventTurn, ReplyTurn, LaterTurn, StoreTurn}
 use Rattle.entry_session.specs.StoreTurns.{cut_short, nothing_open, connected, other_form, malformed_event, bad_event, opened_event}
 use Rattle.entry_session.specs.StoreTurns.{other_xid, malformed_reply, handed_down, no_first_int, an_event, none_waits, a_reply, is_none}
-use Rattle.entry_session.specs.declared.ending.Ending.{Ending}
 use Rattle.entry_session.specs.declared.ending.Ending.TheVariants.{StoreMalformed, WrongXid, NothingOpen, BadEvent}
 use Rattle.entry_session.proofs.OneItem.{same_refusal, one_asked}
 use Rattle.entry_session.proofs.OneTurn.{one_client}

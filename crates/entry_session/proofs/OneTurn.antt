@@ -1,5 +1,5 @@
 -- A frame of a client leads to one stand.
-use Rattle.std.proofs.Common.{◌≡◌, ℕ, ℤ, ◌+◌, ◌<◌, ◌≤◌, ◌^◌, List, [], ◌∷◌, ◌++◌, length, refl, sym, ap, subst, ◌∙◌, arith}
+use Rattle.std.proofs.Common.{◌≡◌, ℕ, ◌+◌, ◌<◌, ◌≤◌, ◌^◌, List, [], ◌∷◌, ◌++◌, length, refl, sym, ap, subst, ◌∙◌, arith}
 use Rattle.jute_core.specs.declared.cursor.Refusal.{Refusal}
 use Rattle.payload_seal.specs.Ivs.{Ivs}
 use Rattle.payload_seal.specs.declared.keys.EntryKeys.{EntryKeys}
@@ -8,11 +8,9 @@ use Rattle.zk_messages.specs.Sent.{is_first}
 use Rattle.zk_messages.specs.declared.request.Item.{Item}
 use Rattle.zk_messages.specs.declared.request.Item.TheVariants as items
 use Rattle.request_rewrite.specs.Ivs.{ivs_from}
-use Rattle.request_rewrite.specs.Veil.{Veil}
 use Rattle.request_rewrite.proofs.Once.{veiled_once}
 use Rattle.entry_session.specs.ClientTurns.{PayloadsIn, VeilsItem, source_at, RefusedItem, HasRoom, ClientTurn, malformed_frame, full_queue, spent_ivs, handed_up}
 use Rattle.entry_session.specs.Stands.{Stand, ends}
-use Rattle.entry_session.specs.declared.ending.Ending.{Ending}
 use Rattle.entry_session.specs.declared.ending.Ending.TheVariants.{ClientMalformed}
 use Rattle.entry_session.proofs.OneItem.{one_item, one_body, item_or_refused, one_item_refusal}
 

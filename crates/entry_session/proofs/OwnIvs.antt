@@ -1,10 +1,9 @@
 -- IVs of two payloads of a boot are apart.
-use Rattle.std.proofs.Common.{◌≡◌, ℕ, ◌<◌, ◌≤◌, ◌^◌, List, ◌∷◌, ◌++◌, length, drop, refl, sym, ap, ◌∙◌, arith}
+use Rattle.std.proofs.Common.{◌≡◌, ℕ, ◌<◌, ◌^◌, List, ◌∷◌, drop, refl, sym, ap, ◌∙◌, arith}
 use Rattle.std.specs.Int.{w32, to_be_bytes, from_be_bytes}
 use Rattle.std.proofs.lemmas.Nat.{from_be_bytes-to_be_bytes_4}
 use Rattle.jute_core.proofs.OneSpelling.{fronts_apart}
 use Rattle.payload_seal.specs.Ivs.{payload_iv}
-use Rattle.payload_seal.specs.declared.keys.EntryKeys.{EntryKeys}
 use Rattle.entry_session.specs.Laws.{HaveOwnIvs}
 use Rattle.entry_session.proofs.HandedUp.{handed}
 

@@ -1,14 +1,14 @@
 -- What a session kept of what its client sent: the first of the items that its bytes spell, and all of them while it goes on.
-use Rattle.std.proofs.Common.{◌≡◌, ℕ, ◌≤◌, Bool, true, false, cond, List, [], ◌∷◌, ◌++◌, Option, Some, None, length, refl, sym, ap, subst, ◌∙◌, arith, append_assoc, append-nil}
+use Rattle.std.proofs.Common.{◌≡◌, ℕ, ◌≤◌, Bool, true, false, cond, List, [], ◌∷◌, ◌++◌, None, length, refl, sym, ap, subst, ◌∙◌, arith, append_assoc, append-nil}
 use Rattle.jute_core.specs.Frames.{frame, FitsFrame, IsRest}
 use Rattle.jute_core.proofs.OneStream.{one_frame}
 use Rattle.payload_seal.specs.declared.keys.EntryKeys.{EntryKeys}
 use Rattle.zk_messages.specs.Items.{IsItem}
-use Rattle.zk_messages.specs.Sent.{client_limit, is_first, BeginsWith, Items, IsEnd, Sent}
+use Rattle.zk_messages.specs.Sent.{client_limit, is_first, BeginsWith, Items, IsEnd}
 use Rattle.zk_messages.specs.declared.request.Item.{Item}
 use Rattle.entry_session.specs.ClientTurns.{ClientTurn, malformed_frame, full_queue, spent_ivs, handed_up}
 use Rattle.entry_session.specs.Heard.{Heard, from_client, from_store, bad_client, bad_store, given, client_frames}
-use Rattle.entry_session.specs.Laws.{TakesFirst, TakesWhatWasSent}
+use Rattle.entry_session.specs.Laws.{TakesWhatWasSent}
 use Rattle.entry_session.specs.Runs.{TurnOf, Ran}
 use Rattle.entry_session.specs.Sides.{bytes_of}
 use Rattle.entry_session.specs.Stands.{Stand, fresh}
@@ -147,13 +147,13 @@ pub takes_what_was_sent : TakesWhatWasSent
 takes_what_was_sent k boot c hs s taken under_way items ran side sent =
     let x = items_sent k boot c hs s ran in
     let cut : taken ++ under_way ≡ bytes_of x.bodies ++ (bytes_of x.rest ++ (side.rest ++ under_way)) =
-        ap (λ l. l ++ under_way) (side.whole ∙ ap (λ l. bytes_of l ++ side.rest) x.front) ∙ append_assoc (bytes_of (x.bodies ++ x.rest)) side.rest under_way ∙ bytes_append x.bodies x.rest (side.rest ++ under_way) in
+    ap (λ l. l ++ under_way) (side.whole ∙ ap (λ l. bytes_of l ++ side.rest) x.front) ∙ append_assoc (bytes_of (x.bodies ++ x.rest)) side.rest under_way ∙ bytes_append x.bodies x.rest (side.rest ++ under_way) in
     let b = front_of true s.items items x.bodies (bytes_of x.rest ++ (side.rest ++ under_way)) sent.rest (taken ++ under_way) x.spelled x.within sent.spelled (ends_alike items sent.rest sent.ended) cut in
     record {
       more = b.more;
       first = b.front;
       all = λ going none.
-      let tail = nothing_after x.rest side.rest under_way (x.all going) none in
-      let no_more = none_there b.kind b.more b.rest side.rest (side.partial going) (subst (λ (l : List ℕ). Items b.kind b.more b.rest l) tail b.spelled) in
-      sym (b.front ∙ ap (λ l. s.items ++ l) no_more ∙ append-nil s.items);
+          let tail = nothing_after x.rest side.rest under_way (x.all going) none in
+          let no_more = none_there b.kind b.more b.rest side.rest (side.partial going) (subst (λ (l : List ℕ). Items b.kind b.more b.rest l) tail b.spelled) in
+          sym (b.front ∙ ap (λ l. s.items ++ l) no_more ∙ append-nil s.items);
     }

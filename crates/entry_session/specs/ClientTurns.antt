@@ -1,5 +1,5 @@
 -- What a session does at a frame of its client.
-use Rattle.std.specs.Prelude.{◌≡◌, ℕ, ℤ, ◌+◌, ◌-◌, ◌<◌, ◌≤◌, ◌^◌, List, [], ◌∷◌, ◌++◌, length, Bool, true, false}
+use Rattle.std.specs.Prelude.{◌≡◌, ℕ, ◌+◌, ◌-◌, ◌<◌, ◌≤◌, ◌^◌, List, [], ◌∷◌, ◌++◌, length, Bool, true, false}
 use Rattle.jute_core.specs.declared.cursor.Refusal.{Refusal}
 use Rattle.payload_seal.specs.Ivs.{Ivs}
 use Rattle.payload_seal.specs.declared.keys.EntryKeys.{EntryKeys}
