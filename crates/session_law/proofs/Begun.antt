@@ -22,7 +22,7 @@ use Rattle.tree_state.specs.Step.{Act, connects, asks as asking, loses, expires,
 use Rattle.tree_server.specs.Out.{outputs, to_connection}
 use Rattle.sealed_machine.specs.Runs.{Question}
 use Rattle.entry_session.specs.StoreTurns.{is_none, IsOfForm}
-use Rattle.TODO.Law.{AreAsked}
+use Rattle.session_law.proofs.Words.{AreAsked}
 use Rattle.sealed_machine.specs.Runs.{HasNoConnected}
 use Rattle.tree_server.proofs.Zipping.{Zips}
 use Rattle.sealed_machine.proofs.SimWords.{Sim}
@@ -87,38 +87,38 @@ head_asked : (c : ℕ) (passwords : ℤ → List ℕ) (s : State) (e : Entry) (e
 unfolding HasNoConnect IsAct MayCome items_in asked_in
 head_asked c passwords s (Take d xid r zxid now) es f qs n a m x j =
     subst (λ (g : Act). AreAsked (asked_in c s g ++ qs) (cond (c == d) (items.Requests xid r ∷ items_in c es) (items_in c es))) (sym a.is) (take_in c d xid r a.command now m.session s qs (items_in c es) m.live a.is_command x j)
-head_asked c passwords s (Connect d asked given zxid now) es f qs n a m x j =
+head_asked c passwords s (Connect d asked session timeout password zxid now) es f qs n a m x j =
     subst (λ (g : Act). AreAsked (asked_in c s g ++ qs) (cond (c == d) (items.Asks asked ∷ items_in c es) (items_in c es))) (sym a)
     (subst (λ (l : List Item). AreAsked qs l) (sym (other_items (c == d) (items.Asks asked) (items_in c es) (flipped c d ∙ not_same d c n.0))) j)
-head_asked c passwords s (Lost d zxid) es f qs n a m x j = subst (λ (g : Act). AreAsked (asked_in c s g ++ qs) (items_in c es)) (sym a) j
+head_asked c passwords s (Lost d) es f qs n a m x j = subst (λ (g : Act). AreAsked (asked_in c s g ++ qs) (items_in c es)) (sym a) j
 head_asked c passwords s (Expire session zxid now) es f qs n a m x j = subst (λ (g : Act). AreAsked (asked_in c s g ++ qs) (items_in c es)) (sym a) j
 
 rest_fit : (c : ℕ) (e : Entry) (es : List Entry) → XidsFit (items_in c (e ∷ es)) → XidsFit (items_in c es)
 unfolding items_in
 rest_fit c (Take d xid r zxid now) es x = fit_rest (c == d) (items.Requests xid r) (items_in c es) x
-rest_fit c (Connect d asked given zxid now) es x = fit_rest (c == d) (items.Asks asked) (items_in c es) x
-rest_fit c (Lost d zxid) es x = x
+rest_fit c (Connect d asked session timeout password zxid now) es x = fit_rest (c == d) (items.Asks asked) (items_in c es) x
+rest_fit c (Lost d) es x = x
 rest_fit c (Expire session zxid now) es x = x
 
 no_connect_act : (c : ℕ) (e : Entry) (es : List Entry) (f : Act) → HasNoConnect c (e ∷ es) → IsAct e f → IsNoConnect c f
 unfolding HasNoConnect IsAct IsNoConnect
 no_connect_act c (Take d xid r zxid now) es f n a = subst (IsNoConnect c) (sym a.is) tt
-no_connect_act c (Connect d asked given zxid now) es f n a = subst (IsNoConnect c) (sym a) (not_same d c n.0)
-no_connect_act c (Lost d zxid) es f n a = subst (IsNoConnect c) (sym a) tt
+no_connect_act c (Connect d asked session timeout password zxid now) es f n a = subst (IsNoConnect c) (sym a) (not_same d c n.0)
+no_connect_act c (Lost d) es f n a = subst (IsNoConnect c) (sym a) tt
 no_connect_act c (Expire session zxid now) es f n a = subst (IsNoConnect c) (sym a) tt
 
 no_connect_rest : (c : ℕ) (e : Entry) (es : List Entry) → HasNoConnect c (e ∷ es) → HasNoConnect c es
 unfolding HasNoConnect
 no_connect_rest c (Take d xid r zxid now) es n = n
-no_connect_rest c (Connect d asked given zxid now) es n = n.1
-no_connect_rest c (Lost d zxid) es n = n
+no_connect_rest c (Connect d asked session timeout password zxid now) es n = n.1
+no_connect_rest c (Lost d) es n = n
 no_connect_rest c (Expire session zxid now) es n = n
 
 once_rest : (e : Entry) (es : List Entry) → ConnectsOnce (e ∷ es) → ConnectsOnce es
 unfolding ConnectsOnce
 once_rest (Take d xid r zxid now) es n = n
-once_rest (Connect d asked given zxid now) es n = n.1
-once_rest (Lost d zxid) es n = n
+once_rest (Connect d asked session timeout password zxid now) es n = n.1
+once_rest (Lost d) es n = n
 once_rest (Expire session zxid now) es n = n
 
 -- ---- after the connect
@@ -175,8 +175,8 @@ asked_other c d q (Some z) e = ap (λ (b : Bool). asked_if b q) e
 others_act : (c : ℕ) (passwords : ℤ → List ℕ) (s : State) (e : Entry) (f : Act) → NoTrace c s → IsAct e f → MayCome passwords s e → IsNoConnect c f → IsOthers c f
 unfolding IsAct MayCome IsNoConnect IsOthers
 others_act c passwords s (Take d xid r zxid now) f n a m i = subst (IsOthers c) (sym a.is) (elim (cases_Bool (d == c)) [ inl t ↦ absurd (no_session c d s n m t) | inr e ↦ e ])
-others_act c passwords s (Connect d asked given zxid now) f n a m i = subst (IsOthers c) (sym a) (subst (IsNoConnect c) a i)
-others_act c passwords s (Lost d zxid) f n a m i = subst (IsOthers c) (sym a) tt
+others_act c passwords s (Connect d asked session timeout password zxid now) f n a m i = subst (IsOthers c) (sym a) (subst (IsNoConnect c) a i)
+others_act c passwords s (Lost d) f n a m i = subst (IsOthers c) (sym a) tt
 others_act c passwords s (Expire session zxid now) f n a m i = subst (IsOthers c) (sym a) tt
 
 -- it asks nothing and has no item
@@ -193,8 +193,8 @@ others_asked c s (expires session now) i = refl
 others_items : (c : ℕ) (e : Entry) (es : List Entry) (f : Act) → IsAct e f → IsOthers c f → items_in c (e ∷ es) ≡ items_in c es
 unfolding IsAct IsOthers items_in
 others_items c (Take d xid r zxid now) es f a i = other_items (c == d) _ (items_in c es) (flipped c d ∙ subst (IsOthers c) a.is i)
-others_items c (Connect d asked given zxid now) es f a i = other_items (c == d) _ (items_in c es) (flipped c d ∙ subst (IsOthers c) a i)
-others_items c (Lost d zxid) es f a i = refl
+others_items c (Connect d asked session timeout password zxid now) es f a i = other_items (c == d) _ (items_in c es) (flipped c d ∙ subst (IsOthers c) a i)
+others_items c (Lost d) es f a i = refl
 others_items c (Expire session zxid now) es f a i = refl
 
 own_items : (b : Bool) (i : Item) (is : List Item) → b ≡ true → cond b (i ∷ is) is ≡ i ∷ is
@@ -218,7 +218,7 @@ unfolding step answer_connect to_connection
 own_output c d asked given now s e = ap (λ (b : Bool). cond b (messages.Connected (response_of asked given) ∷ []) []) e
 
 -- the entry is the connection's own connect
-begins : (c d : ℕ) (asked : ConnectRequest) (given : Given) (zxid now : ℤ) (s : State) (es : List Entry) (f : Act) (fs : List Act) → (d == c) ≡ true → f ≡ connects d asked given now → After c (step plain s f).state es fs → Phase c s (Connect d asked given zxid now ∷ es) (f ∷ fs)
+begins : (c d : ℕ) (asked : ConnectRequest) (given : Given) (zxid now : ℤ) (s : State) (es : List Entry) (f : Act) (fs : List Act) → (d == c) ≡ true → f ≡ connects d asked given now → After c (step plain s f).state es fs → Phase c s (Connect d asked given.session given.timeout given.password zxid now ∷ es) (f ∷ fs)
 unfolding outputs all_asked items_in asked_in
 begins c d asked given zxid now s es f fs t e a =
     begun asked (items_in c es) (response_of asked given) (to_connection c (outputs plain (step plain s f).state fs)) (own_items (c == d) _ (items_in c es) (flipped c d ∙ t)) (form_of asked given)
@@ -243,13 +243,13 @@ expire_no c session now f a = subst (IsNoConnect c) (sym a) tt
 
 choose_entry : (c : ℕ) (passwords : ℤ → List ℕ) (s : State) (e : Entry) (es : List Entry) (f : Act) (fs : List Act) → NoTrace c s → ConnectsOnce (e ∷ es) → IsAct e f → MayCome passwords s e → (IsOthers c f → Phase c s (e ∷ es) (f ∷ fs)) → (HasNoConnect c es → After c (step plain s f).state es fs) → Phase c s (e ∷ es) (f ∷ fs)
 unfolding ConnectsOnce IsAct
-choose_entry c passwords s (Connect d asked given zxid now) es f fs n o a m others own =
+choose_entry c passwords s (Connect d asked session timeout password zxid now) es f fs n o a m others own =
     elim (cases_Bool (d == c)) [
-      | inl t ↦ begins c d asked given zxid now s es f fs t a (own (subst (λ (x : ℕ). HasNoConnect x es) (eqb-true d c t) o.0))
-      | inr e ↦ others (others_act c passwords s (Connect d asked given zxid now) f n a m (connect_no c d asked given now f a e))
+      | inl t ↦ begins c d asked (record { session = session; timeout = timeout; password = password }) zxid now s es f fs t a (own (subst (λ (x : ℕ). HasNoConnect x es) (eqb-true d c t) o.0))
+      | inr e ↦ others (others_act c passwords s (Connect d asked session timeout password zxid now) f n a m (connect_no c d asked _ now f a e))
     ]
 choose_entry c passwords s (Take d xid r zxid now) es f fs n o a m others own = others (others_act c passwords s (Take d xid r zxid now) f n a m (take_no c d xid r now f a))
-choose_entry c passwords s (Lost d zxid) es f fs n o a m others own = others (others_act c passwords s (Lost d zxid) f n a m (lost_no c d f a))
+choose_entry c passwords s (Lost d) es f fs n o a m others own = others (others_act c passwords s (Lost d) f n a m (lost_no c d f a))
 choose_entry c passwords s (Expire session zxid now) es f fs n o a m others own = others (others_act c passwords s (Expire session zxid now) f n a m (expire_no c session now f a))
 
 module _ (k : EntryKeys) (w : AreKeys k.names) (naming : Naming) (names : IsNaming (IsSealedName k.names) naming) (passwords : ℤ → List ℕ) (c : ℕ) where

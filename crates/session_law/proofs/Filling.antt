@@ -1,35 +1,30 @@
 -- The filled order: what the clients sent in place of what the store was handed.
-use Rattle.std.proofs.Common.{◌≡◌, ℕ, zero, suc, ℤ, ◌+◌, Bool, true, false, cond, List, [], ◌∷◌, ◌++◌, Option, Some, None, length, refl, sym, ap, subst, ◌∙◌}
+use Rattle.std.proofs.Common.{◌≡◌, ℕ, zero, suc, ℤ, ◌+◌, Bool, true, false, cond, List, [], ◌∷◌, ◌++◌, length, refl, sym, ap, subst, ◌∙◌, append_assoc}
 use Rattle.std.specs.Prelude.{All, ◌==◌}
-use Rattle.std.proofs.lemmas.Bool.{eq-eqb}
+use Rattle.std.proofs.lemmas.Bool.{eqb-true, eq-eqb}
 use Rattle.std.proofs.lemmas.List.Elements.{All-nil, All-cons, All-append}
 use Rattle.payload_seal.specs.Ivs.{Ivs, payload_iv}
 use Rattle.payload_seal.specs.declared.keys.EntryKeys.{EntryKeys}
 use Rattle.zk_records.specs.declared.connect.ConnectRequest.{ConnectRequest}
-use Rattle.zk_messages.specs.Items.{IsItem}
-use Rattle.zk_messages.specs.Sent.{is_first}
 use Rattle.zk_messages.specs.declared.request.Item.{Item}
 use Rattle.zk_messages.specs.declared.request.Item.TheVariants as items
 use Rattle.zk_messages.specs.declared.request.Request.{Request}
+use Rattle.entry_session.proofs.OneItem.{one_item}
 use Rattle.request_rewrite.specs.Ivs.{ivs_from, iv_after}
-use Rattle.tree_state.specs.declared.session.Given.{Given}
-use Rattle.world_core.proofs.ItemLemmas.{one_item}
-use Rattle.TODO.Sessions.{Ending, malformed, full, spent, passes, short, connected, bad, tells, wrong, admits, cut, event, unasked, reply}
-use Rattle.entry_session.specs.Heard.{Heard, from_client, from_store, bad_client, bad_store, given}
-use Rattle.entry_session.specs.Stands.{Stand, fresh}
-use Rattle.entry_session.specs.ClientTurns.{ClientTurn, VeilsItem, source_at}
-use Rattle.entry_session.specs.StoreTurns.{StoreTurn, UnaskedTurn, ConnectTurn, EventTurn, ReplyTurn, LaterTurn}
-use Rattle.entry_session.specs.Runs.{TurnOf, TurnIf, Ran}
-use Rattle.sealed_machine.specs.Runs.{nothing}
-use Rattle.request_queue.specs.declared.asked.Asked.{Asked}
-unfoldable pub use Rattle.TODO.Entries.{filled, fill, SealsItem}
-unfoldable pub use Rattle.session_law.specs.Fill.{without_first, left_after, items_in}
-unfoldable pub use Rattle.entry_session.specs.StoreTurns.{item_at}
+use Rattle.entry_session.specs.ClientTurns.{VeilsItem, source_at}
 unfoldable pub use Rattle.entry_session.specs.Veiled.{SpellsItems}
-use Rattle.tree_server.proofs.Zipping.{Zips, zips_append, zips_one}
+unfoldable pub use Rattle.entry_session.proofs.HandedUp.{VeilsUpTo}
+unfoldable pub use Rattle.session_law.specs.Fill.{FillsEntry, Fills, left_after, items_in}
+use Rattle.session_law.specs.Fill.{without_first}
+use Rattle.tree_server.proofs.Zipping.{Zips}
 use Rattle.session_law.proofs.Orders.{Entry, Connect, Take, Lost, Expire, IsVeiled, VeilsEntry}
 
--- ---- what a session hands up
+-- ---- an item, and its sealed form
+
+unfoldable pub SealsItem : EntryKeys → Item → Item → Type 0
+SealsItem k (items.Asks asked) v = v ≡ items.Asks asked
+SealsItem k (items.Requests xid r) (items.Requests number v) = (number ≡ xid) × IsVeiled k r v
+SealsItem k i v = ⊥
 
 twelve : (boot c j : ℕ) → length (payload_iv boot c j) ≡ 12
 twelve boot c j = refl
@@ -45,110 +40,15 @@ seals_item k s n (items.Asks asked) v h = h
 seals_item k s n (items.Requests xid r) (items.Requests number v) h = (h.0, record { ivs = ivs_from s n; twelve = ivs_twelve s n; veil = h.1 })
 seals_item k s n (items.Requests xid r) v h = absurd h
 
-spells_more : (first : Bool) (is : List Item) (bs : List (List ℕ)) (i : Item) (b : List ℕ) → SpellsItems first is bs → IsItem (cond (is_first is) first false) i b → SpellsItems first (is ++ i ∷ []) (bs ++ b ∷ [])
-unfolding SpellsItems
-spells_more first [] [] i b h j = (j, tt)
-spells_more first [] (c ∷ bs) i b h j = absurd h
-spells_more first (x ∷ is) [] i b h j = absurd h
-spells_more first (x ∷ is) (c ∷ bs) i b h j = (h.0, spells_more false is bs i b h.1 (not_first_item is i b j))
-  where
-    not_first_item : (is : List Item) (i : Item) (b : List ℕ) → IsItem false i b → IsItem (cond (is_first is) false false) i b
-    not_first_item [] i b h = h
-    not_first_item (x ∷ is) i b h = h
+-- what was veiled with its IVs counted is sealed item by item
+pub all_sealed : (k : EntryKeys) (boot c sealed end : ℕ) (is vs : List Item) → VeilsUpTo k boot c sealed is vs end → Zips (SealsItem k) is vs
+unfolding VeilsUpTo Zips
+all_sealed k boot c sealed end [] [] h = tt
+all_sealed k boot c sealed end [] (v ∷ vs) h = absurd h
+all_sealed k boot c sealed end (i ∷ is) [] h = absurd h
+all_sealed k boot c sealed end (i ∷ is) (v ∷ vs) h = (seals_item k _ h.1.count i v h.1.veils, all_sealed k boot c h.0 end is vs h.2)
 
--- what was handed up is the sealed form of what was sent
-pub record HandsUp (k : EntryKeys) (s : Stand) : Type 0 where
-  pub veiled : List Item
-  pub seals : Zips (SealsItem k) s.items veiled
-  pub spelled : SpellsItems true veiled s.up
-
-same_first : (k : EntryKeys) (is vs : List Item) (v : Item) (b : List ℕ) → Zips (SealsItem k) is vs → IsItem (is_first is) v b → IsItem (cond (is_first vs) true false) v b
-unfolding Zips
-same_first k [] [] v b h j = j
-same_first k [] (x ∷ vs) v b h j = absurd h
-same_first k (i ∷ is) [] v b h j = absurd h
-same_first k (i ∷ is) (x ∷ vs) v b h j = j
-
-client_hands : (k : EntryKeys) (boot c : ℕ) (old : Stand) (body : List ℕ) (new : Stand) → HandsUp k old → ClientTurn k boot c old body new → HandsUp k new
-client_hands k boot c old body new h (malformed place reason f) = record { veiled = h.veiled; seals = h.seals; spelled = h.spelled }
-client_hands k boot c old body new h (full i f g) = record { veiled = h.veiled; seals = h.seals; spelled = h.spelled }
-client_hands k boot c old body new h (spent i n f g p l) = record { veiled = h.veiled; seals = h.seals; spelled = h.spelled }
-client_hands k boot c old body new h (passes i v n out f g p l q o) = record {
-  veiled = h.veiled ++ v ∷ [];
-  seals = zips_append (SealsItem k) _ _ _ _ h.seals (zips_one (SealsItem k) i v (seals_item k (source_at boot c old.sealed) n i v q));
-  spelled = spells_more true h.veiled old.up v out h.spelled (same_first k old.items h.veiled v out h.seals o);
-}
-
--- two stands that hand up alike
-AlikeUp : Stand → Stand → Type 0
-AlikeUp old new = (new.items ≡ old.items) × (new.up ≡ old.up)
-
-hands_along : (k : EntryKeys) (old new : Stand) → AlikeUp old new → HandsUp k old → HandsUp k new
-unfolding AlikeUp
-hands_along k old new e h = record { veiled = h.veiled; seals = subst (λ (l : List Item). Zips (SealsItem k) l h.veiled) (sym e.0) h.seals; spelled = subst (λ (l : List (List ℕ)). SpellsItems true h.veiled l) (sym e.1) h.spelled }
-
-same_stand : (old new : Stand) (s : Stand) → new ≡ s → AlikeUp old s → AlikeUp old new
-same_stand old new s e h = subst (AlikeUp old) (sym e) h
-
-self_up : (s : Stand) → AlikeUp s s
-unfolding AlikeUp
-self_up s = (refl, refl)
-
-unasked_up : (old : Stand) (body : List ℕ) (new : Stand) → UnaskedTurn old body new → AlikeUp old new
-unfolding AlikeUp
-unasked_up old body new (short f) = (refl, refl)
-unasked_up old body new (nothing z f) = (refl, refl)
-
-connect_up : (asked : ConnectRequest) (old : Stand) (body : List ℕ) (new : Stand) → ConnectTurn asked old body new → AlikeUp old new
-unfolding AlikeUp
-connect_up asked old body new (connected r f g) = (refl, refl)
-connect_up asked old body new (malformed place reason f) = (refl, refl)
-
-event_up : (k : EntryKeys) (old : Stand) (body : List ℕ) (new : Stand) → EventTurn k old body new → AlikeUp old new
-unfolding AlikeUp
-event_up k old body new (malformed place reason f) = (refl, refl)
-event_up k old body new (bad e flaw f g) = (refl, refl)
-event_up k old body new (tells e p out f g h) = (refl, refl)
-
-reply_up : (k : EntryKeys) (xid : ℤ) (asked : Asked) (old : Stand) (body : List ℕ) (new : Stand) → ReplyTurn k xid asked old body new → AlikeUp old new
-unfolding AlikeUp
-reply_up k xid asked old body new (wrong z f g) = (refl, refl)
-reply_up k xid asked old body new (malformed place reason f g) = (refl, refl)
-reply_up k xid asked old body new (admits a b c out f g h i) = (refl, refl)
-
-later_up : (k : EntryKeys) (old : Stand) (body : List ℕ) (new : Stand) → LaterTurn k old body new → AlikeUp old new
-unfolding AlikeUp
-later_up k old body new (cut f e) = same_stand old new _ e (refl, refl)
-later_up k old body new (event f t) = event_up k old body new t
-later_up k old body new (unasked z f g i e) = same_stand old new _ e (refl, refl)
-later_up k old body new (reply z xid q asked f g i a t) = reply_up k xid asked old body new t
-
-store_up : (k : EntryKeys) (old : Stand) (body : List ℕ) (new : Stand) (is : List Item) (n : ℕ) → StoreTurn k old body new is n → AlikeUp old new
-unfolding StoreTurn
-store_up k old body new [] n t = unasked_up old body new t
-store_up k old body new (items.Asks asked ∷ is) zero t = connect_up asked old body new t
-store_up k old body new (items.Asks asked ∷ is) (suc n) t = later_up k old body new t
-store_up k old body new (items.Requests xid q ∷ is) n t = later_up k old body new t
-
-turn_hands : (k : EntryKeys) (boot c : ℕ) (o : Option Ending) (old : Stand) (h : Heard) (new : Stand) → TurnIf k boot c o old h new → HandsUp k old → HandsUp k new
-unfolding TurnIf TurnOf AlikeUp
-turn_hands k boot c (Some e) old h new t x = hands_along k old new (same_stand old new old t (refl, refl)) x
-turn_hands k boot c None old (from_client body) new t x = client_hands k boot c old body new x t
-turn_hands k boot c None old (from_store body) new t x = hands_along k old new (store_up k old body new old.items old.answered t) x
-turn_hands k boot c None old (bad_client z) new t x = hands_along k old new (same_stand old new _ t (refl, refl)) x
-turn_hands k boot c None old (bad_store z) new t x = hands_along k old new (same_stand old new _ t (refl, refl)) x
-turn_hands k boot c None old (given n) new t x = hands_along k old new (same_stand old new _ t (refl, refl)) x
-
-fresh_hands : (k : EntryKeys) → HandsUp k fresh
-unfolding Zips SpellsItems
-fresh_hands k = record { veiled = []; seals = tt; spelled = tt }
-
-pub hands_up : (k : EntryKeys) (boot c : ℕ) (hs : List Heard) (s : Stand) → Ran k boot c hs s → HandsUp k s
-unfolding Ran
-hands_up k boot c [] s e = subst (HandsUp k) (sym e) (fresh_hands k)
-hands_up k boot c (h ∷ hs) s (old, ran, t) = turn_hands k boot c old.ending old h s t (hands_up k boot c hs old ran)
-
--- ---- what the store took of it
+-- ---- what the store took of what was handed up
 
 -- items that the front of the bodies spells are the front of those that all spell
 pub taken_front : (first : Bool) (taken vs : List Item) (bodies more : List (List ℕ)) → SpellsItems first taken bodies → SpellsItems first vs (bodies ++ more) → (rest : List Item) × (vs ≡ taken ++ rest)
@@ -165,7 +65,7 @@ taken_front first (t ∷ taken) (v ∷ vs) (b ∷ bodies) more h j =
 -- ---- the filled order
 
 left_zips : (k : EntryKeys) (b : Bool) (is vs : List Item) → Zips (SealsItem k) is vs → Zips (SealsItem k) (cond b (without_first is) is) (cond b (without_first vs) vs)
-unfolding Zips without_first
+unfolding Zips
 left_zips k true [] [] h = tt
 left_zips k true [] (v ∷ vs) h = absurd h
 left_zips k true (i ∷ is) [] h = absurd h
@@ -173,7 +73,6 @@ left_zips k true (i ∷ is) (v ∷ vs) h = h.1
 left_zips k false is vs h = h
 
 left_front : (b : Bool) (i : Item) (is vs more : List Item) → vs ≡ cond b (i ∷ is) is ++ more → cond b (without_first vs) vs ≡ is ++ more
-unfolding without_first
 left_front true i is vs more e = ap without_first e
 left_front false i is vs more e = e
 
@@ -221,32 +120,9 @@ asks_first k (items.Asks a ∷ is) (x ∷ vs) rest asked h e = (is, (λ j. (sym 
 asks_first k (items.Requests number r ∷ is) (items.Asks a ∷ vs) rest asked h e = absurd h.0
 asks_first k (items.Requests number r ∷ is) (items.Requests other u ∷ vs) rest asked h e = absurd (asks_or_requests asked other u (sym (first_of (items.Requests other u) vs rest (items.Asks asked) e)))
 
-pub filled_take : (c : ℕ) (xid number : ℤ) (v r : Request) (zxid now : ℤ) (is others : List Item) → is ≡ items.Requests number r ∷ others → filled (Take c xid v zxid now) is ≡ Take c number r zxid now
-unfolding filled
-filled_take c xid number v r zxid now is others e = subst (λ (l : List Item). filled (Take c xid v zxid now) l ≡ Take c number r zxid now) (sym e) refl
-
-pub filled_connect : (c : ℕ) (asked plain : ConnectRequest) (g : Given) (zxid now : ℤ) (is others : List Item) → is ≡ items.Asks plain ∷ others → filled (Connect c asked g zxid now) is ≡ Connect c plain g zxid now
-unfolding filled
-filled_connect c asked plain g zxid now is others e = subst (λ (l : List Item). filled (Connect c asked g zxid now) l ≡ Connect c plain g zxid now) (sym e) refl
-
 take_veils : (k : EntryKeys) (c : ℕ) (xid : ℤ) (r v : Request) (zxid now : ℤ) → IsVeiled k r v → VeilsEntry k (Take c xid r zxid now) (Take c xid v zxid now)
 unfolding VeilsEntry
 take_veils k c xid r v zxid now h = (refl, refl, h, refl, refl)
-
-first_filled : (k : EntryKeys) (e : Entry) (es : List Entry) (sent veiled : ℕ → List Item) → IsFilled k (e ∷ es) sent veiled → VeilsEntry k (filled e (item_at e sent)) e
-unfolding item_at items_in filled VeilsEntry
-first_filled k (Take c xid v zxid now) es sent veiled h =
-    let f = h.front c in
-    let own = own_front (c == c) (items.Requests xid v) (items_in c es) (veiled c) f.0 (eq-eqb c c refl) f.1 in
-    let r = request_first k (sent c) (veiled c) _ xid v (h.seals c) own in
-    subst (λ (x : Entry). VeilsEntry k x (Take c xid v zxid now)) (sym (filled_take c xid xid v r.0 zxid now (sent c) r.1 r.2)) (take_veils k c xid r.0 v zxid now r.3)
-first_filled k (Connect c asked g zxid now) es sent veiled h =
-    let f = h.front c in
-    let own = own_front (c == c) (items.Asks asked) (items_in c es) (veiled c) f.0 (eq-eqb c c refl) f.1 in
-    let r = asks_first k (sent c) (veiled c) _ asked (h.seals c) own in
-    subst (λ (x : Entry). VeilsEntry k x (Connect c asked g zxid now)) (sym (filled_connect c asked asked g zxid now (sent c) r.0 r.1)) refl
-first_filled k (Lost c zxid) es sent veiled h = refl
-first_filled k (Expire session zxid now) es sent veiled h = refl
 
 pub rest_filled : (k : EntryKeys) (e : Entry) (es : List Entry) (sent veiled : ℕ → List Item) → IsFilled k (e ∷ es) sent veiled → IsFilled k es (left_after e sent) (left_after e veiled)
 unfolding left_after items_in
@@ -254,15 +130,96 @@ rest_filled k (Take d xid v zxid now) es sent veiled h = record {
   seals = λ c. left_zips k (c == d) (sent c) (veiled c) (h.seals c);
   front = λ c. ((h.front c).0, left_front (c == d) (items.Requests xid v) (items_in c es) (veiled c) (h.front c).0 (h.front c).1);
 }
-rest_filled k (Connect d asked g zxid now) es sent veiled h = record {
+rest_filled k (Connect d asked session timeout password zxid now) es sent veiled h = record {
   seals = λ c. left_zips k (c == d) (sent c) (veiled c) (h.seals c);
   front = λ c. ((h.front c).0, left_front (c == d) (items.Asks asked) (items_in c es) (veiled c) (h.front c).0 (h.front c).1);
 }
-rest_filled k (Lost d zxid) es sent veiled h = record { seals = h.seals; front = h.front }
+rest_filled k (Lost d) es sent veiled h = record { seals = h.seals; front = h.front }
 rest_filled k (Expire session zxid now) es sent veiled h = record { seals = h.seals; front = h.front }
 
-module _ (k : EntryKeys) where
-  pub fills : (order : List Entry) (sent veiled : ℕ → List Item) → IsFilled k order sent veiled → Zips (VeilsEntry k) (fill order sent) order
-  unfolding Zips fill
-  fills [] sent veiled h = tt
-  fills (e ∷ es) sent veiled h = (first_filled k e es sent veiled h, fills es (left_after e sent) (left_after e veiled) (rest_filled k e es sent veiled h))
+-- the entry filled, and what it has of each connection beside what the entries after it have
+pub record OneFilled (k : EntryKeys) (e : Entry) (sent : ℕ → List Item) : Type 0 where
+  pub entry : Entry
+  pub fills : FillsEntry e sent entry
+  pub veils : VeilsEntry k entry e
+  pub first : (c : ℕ) (fs : List Entry) (more : List Item) → left_after e sent c ≡ items_in c fs ++ more → sent c ≡ items_in c (entry ∷ fs) ++ more
+
+rest_back : (b : Bool) (i : Item) (own others is more : List Item) → (b ≡ true → own ≡ i ∷ others) → cond b (without_first own) own ≡ is ++ more → own ≡ cond b (i ∷ is) is ++ more
+rest_back true i own others is more f e = f refl ∙ ap (λ (l : List Item). i ∷ l) (sym (ap without_first (f refl)) ∙ e)
+rest_back false i own others is more f e = e
+
+sent_at : (c d : ℕ) (sent : ℕ → List Item) (l : List Item) → (c == d) ≡ true → sent d ≡ l → sent c ≡ l
+sent_at c d sent l t e = ap sent (eqb-true c d t) ∙ e
+
+one_filled : (k : EntryKeys) (e : Entry) (es : List Entry) (sent veiled : ℕ → List Item) → IsFilled k (e ∷ es) sent veiled → OneFilled k e sent
+unfolding items_in left_after FillsEntry VeilsEntry
+one_filled k (Take d xid v zxid now) es sent veiled h =
+    let f = h.front d in
+    let own = own_front (d == d) (items.Requests xid v) (items_in d es) (veiled d) f.0 (eq-eqb d d refl) f.1 in
+    let r = request_first k (sent d) (veiled d) _ xid v (h.seals d) own in
+    record {
+      entry = Take d xid r.0 zxid now;
+      fills = (xid, r.0, r.1, r.2, refl);
+      veils = take_veils k d xid r.0 v zxid now r.3;
+      first = λ c fs more ih. rest_back (c == d) (items.Requests xid r.0) (sent c) r.1 (items_in c fs) more (λ t. sent_at c d sent _ t r.2) ih;
+    }
+one_filled k (Connect d asked session timeout password zxid now) es sent veiled h =
+    let f = h.front d in
+    let own = own_front (d == d) (items.Asks asked) (items_in d es) (veiled d) f.0 (eq-eqb d d refl) f.1 in
+    let r = asks_first k (sent d) (veiled d) _ asked (h.seals d) own in
+    record {
+      entry = Connect d asked session timeout password zxid now;
+      fills = (asked, r.0, r.1, refl);
+      veils = refl;
+      first = λ c fs more ih. rest_back (c == d) (items.Asks asked) (sent c) r.0 (items_in c fs) more (λ t. sent_at c d sent _ t r.1) ih;
+    }
+one_filled k (Lost d) es sent veiled h = record { entry = Lost d; fills = refl; veils = refl; first = λ c fs more ih. ih }
+one_filled k (Expire session zxid now) es sent veiled h = record { entry = Expire session zxid now; fills = refl; veils = refl; first = λ c fs more ih. ih }
+
+-- the order filled: its requests veiled are the store's, and it has of each connection the first of what it sent
+pub record Filled (k : EntryKeys) (order : List Entry) (sent : ℕ → List Item) : Type 0 where
+  pub plain_order : List Entry
+  pub fills : Fills order sent plain_order
+  pub veils : Zips (VeilsEntry k) plain_order order
+  pub front : (c : ℕ) → (more : List Item) × (sent c ≡ items_in c plain_order ++ more)
+
+pub fill_all : (k : EntryKeys) (order : List Entry) (sent veiled : ℕ → List Item) → IsFilled k order sent veiled → Filled k order sent
+unfolding Fills Zips items_in
+fill_all k [] sent veiled h = record { plain_order = []; fills = tt; veils = tt; front = λ c. (sent c, refl) }
+fill_all k (e ∷ es) sent veiled h =
+    let one = one_filled k e es sent veiled h in
+    let rest = fill_all k es (left_after e sent) (left_after e veiled) (rest_filled k e es sent veiled h) in
+    record {
+      plain_order = one.entry ∷ rest.plain_order;
+      fills = (one.fills, rest.fills);
+      veils = (one.veils, rest.veils);
+      front = λ c. ((rest.front c).0, one.first c rest.plain_order (rest.front c).0 (rest.front c).1);
+    }
+
+-- ---- with more items than entries
+
+more_after : (b : Bool) (is more own : List Item) (i : Item) (others : List Item) → (b ≡ true → is ≡ i ∷ others) → own ≡ is ++ more → cond b (without_first own) own ≡ cond b (without_first is) is ++ more
+more_after true is more own i others f e = ap without_first (e ∙ ap (λ (l : List Item). l ++ more) (f refl)) ∙ ap (λ (l : List Item). without_first l ++ more) (sym (f refl))
+more_after false is more own i others f e = e
+
+fills_rest : (e : Entry) (sent whole more : ℕ → List Item) (f : Entry) → FillsEntry e sent f → ((c : ℕ) → whole c ≡ sent c ++ more c) → (c : ℕ) → left_after e whole c ≡ left_after e sent c ++ more c
+unfolding FillsEntry left_after
+fills_rest (Connect d asked session timeout password zxid now) sent whole more f (p, others, own, is) h c = more_after (c == d) (sent c) (more c) (whole c) (items.Asks p) others (λ t. sent_at c d sent _ t own) (h c)
+fills_rest (Take d xid request zxid now) sent whole more f (number, p, others, own, is) h c = more_after (c == d) (sent c) (more c) (whole c) (items.Requests number p) others (λ t. sent_at c d sent _ t own) (h c)
+fills_rest (Lost d) sent whole more f is h c = h c
+fills_rest (Expire session zxid now) sent whole more f is h c = h c
+
+fills_first : (e : Entry) (sent whole more : ℕ → List Item) (f : Entry) → FillsEntry e sent f → ((c : ℕ) → whole c ≡ sent c ++ more c) → FillsEntry e whole f
+unfolding FillsEntry
+fills_first (Connect d asked session timeout password zxid now) sent whole more f (p, others, own, is) h = (p, others ++ more d, h d ∙ ap (λ (l : List Item). l ++ more d) own, is)
+fills_first (Take d xid request zxid now) sent whole more f (number, p, others, own, is) h = (number, p, others ++ more d, h d ∙ ap (λ (l : List Item). l ++ more d) own, is)
+fills_first (Lost d) sent whole more f is h = is
+fills_first (Expire session zxid now) sent whole more f is h = is
+
+-- to fill with more items than there are entries gives the same order
+pub fills_more : (es : List Entry) (sent whole more : ℕ → List Item) (fs : List Entry) → Fills es sent fs → ((c : ℕ) → whole c ≡ sent c ++ more c) → Fills es whole fs
+unfolding Fills
+fills_more [] sent whole more [] h e = tt
+fills_more [] sent whole more (f ∷ fs) h e = absurd h
+fills_more (x ∷ es) sent whole more [] h e = absurd h
+fills_more (x ∷ es) sent whole more (f ∷ fs) h e = (fills_first x sent whole more f h.0 e, fills_more es (left_after x sent) (left_after x whole) more fs h.1 (fills_rest x sent whole more f h.0 e))

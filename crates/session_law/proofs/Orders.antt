@@ -16,10 +16,10 @@ use Rattle.tree_state.specs.Commands.{Command, IsCommand}
 use Rattle.tree_state.specs.Step.{Act, connects, asks as asking, loses, expires, given_to}
 use Rattle.tree_state.proofs.OneCommand.{one_command}
 unfoldable pub use Rattle.tree_server.specs.Acts.{IsAct}
-unfoldable pub use Rattle.tree_server.specs.Orders.{IsFree, MayCome, LegalFrom, HasNoConnect, ConnectsOnce}
-unfoldable pub use Rattle.TODO.Entries.{zxid_after}
+unfoldable pub use Rattle.tree_server.specs.Orders.{IsFree, MayCome, HasLast, LegalFrom, HasNoConnect, ConnectsOnce}
 unfoldable pub use Rattle.session_law.specs.Law.{VeilsEntry}
-pub use Rattle.TODO.Entries.{Entry, Connect, Take, Lost, Expire}
+pub use Rattle.tree_server.specs.declared.entry.Entry.{Entry}
+pub use Rattle.tree_server.specs.declared.entry.Entry.TheVariants.{Connect, Take, Lost, Expire}
 pub use Rattle.tree_server.specs.Acts.{IsAsked}
 pub use Rattle.tree_server.specs.Orders.{MayConnect, HasSession, IsOver, IsNext, given_in, next_session}
 pub use Rattle.session_law.specs.Law.{IsVeiled}
@@ -57,11 +57,11 @@ pub plain_act : (k : EntryKeys) → AreKeys k.names → (e f : Entry) (g : Act) 
 unfolding VeilsEntry IsAct VeilsAct
 plain_act k w (Take c xid r zxid now) (Take d other v at then_) g h a = take_act k w c d xid other r v zxid now at then_ g h.0 h.1 h.2 h.4 a
 plain_act k w (Take c xid r zxid now) f g h a = absurd h
-plain_act k w (Connect c asked given zxid now) f g h a = record { act = g; is = subst (λ (x : Entry). IsAct x g) (sym h) a; veils = self g (subst (λ (x : Entry). IsAct x g) (sym h) a) }
+plain_act k w (Connect c asked session timeout password zxid now) f g h a = record { act = g; is = subst (λ (x : Entry). IsAct x g) (sym h) a; veils = self g (subst (λ (x : Entry). IsAct x g) (sym h) a) }
   where
-    self : (g : Act) → g ≡ connects c asked given now → VeilsAct k g g
+    self : (g : Act) → g ≡ connects c asked (record { session = session; timeout = timeout; password = password }) now → VeilsAct k g g
     self g e = subst (λ (x : Act). VeilsAct k x x) (sym e) refl
-plain_act k w (Lost c zxid) f g h a = record { act = g; is = subst (λ (x : Entry). IsAct x g) (sym h) a; veils = self g (subst (λ (x : Entry). IsAct x g) (sym h) a) }
+plain_act k w (Lost c) f g h a = record { act = g; is = subst (λ (x : Entry). IsAct x g) (sym h) a; veils = self g (subst (λ (x : Entry). IsAct x g) (sym h) a) }
   where
     self : (g : Act) → g ≡ loses c → VeilsAct k g g
     self g e = subst (λ (x : Act). VeilsAct k x x) (sym e) refl
@@ -104,26 +104,26 @@ is_over k s t session now h m = record { one = m.one; live = ap (session_at sess
 
 same_may : (k : EntryKeys) (passwords : ℤ → List ℕ) (s t : State) (e : Entry) → Sim k s t → MayCome passwords t e → MayCome passwords s e
 unfolding MayCome
-same_may k passwords s t (Connect c asked given zxid now) h m = may_connect k passwords s t asked given h m
+same_may k passwords s t (Connect c asked session timeout password zxid now) h m = may_connect k passwords s t asked _ h m
 same_may k passwords s t (Take c xid r zxid now) h m = has_session k s t c h m
-same_may k passwords s t (Lost c zxid) h m = has_session k s t c h m
+same_may k passwords s t (Lost c) h m = has_session k s t c h m
 same_may k passwords s t (Expire session zxid now) h m = is_over k s t session now h m
 
 may_come : (k : EntryKeys) (passwords : ℤ → List ℕ) (s t : State) (e f : Entry) → Sim k s t → VeilsEntry k e f → MayCome passwords t f → MayCome passwords s e
 unfolding VeilsEntry MayCome
 may_come k passwords s t (Take c xid r zxid now) (Take d other v at then_) h i m = has_session k s t c h (subst (HasSession t) (sym i.0) m)
 may_come k passwords s t (Take c xid r zxid now) f h i m = absurd i
-may_come k passwords s t (Connect c asked given zxid now) f h i m = same_may k passwords s t (Connect c asked given zxid now) h (subst (λ (x : Entry). MayCome passwords t x) (sym i) m)
-may_come k passwords s t (Lost c zxid) f h i m = same_may k passwords s t (Lost c zxid) h (subst (λ (x : Entry). MayCome passwords t x) (sym i) m)
+may_come k passwords s t (Connect c asked session timeout password zxid now) f h i m = same_may k passwords s t (Connect c asked session timeout password zxid now) h (subst (λ (x : Entry). MayCome passwords t x) (sym i) m)
+may_come k passwords s t (Lost c) f h i m = same_may k passwords s t (Lost c) h (subst (λ (x : Entry). MayCome passwords t x) (sym i) m)
 may_come k passwords s t (Expire session zxid now) f h i m = same_may k passwords s t (Expire session zxid now) h (subst (λ (x : Entry). MayCome passwords t x) (sym i) m)
 
-same_zxid : (k : EntryKeys) (e f : Entry) → VeilsEntry k e f → zxid_after e ≡ zxid_after f
-unfolding VeilsEntry zxid_after
-same_zxid k (Take c xid r zxid now) (Take d other v at then_) i = i.3
-same_zxid k (Take c xid r zxid now) f i = absurd i
-same_zxid k (Connect c asked given zxid now) f i = ap zxid_after i
-same_zxid k (Lost c zxid) f i = ap zxid_after i
-same_zxid k (Expire session zxid now) f i = ap zxid_after i
+same_last : (k : EntryKeys) (e f : Entry) (last : ℤ) → VeilsEntry k e f → HasLast f last → HasLast e last
+unfolding VeilsEntry HasLast
+same_last k (Take c xid r zxid now) (Take d other v at then_) last i l = i.3 ∙ l
+same_last k (Take c xid r zxid now) f last i l = absurd i
+same_last k (Connect c asked session timeout password zxid now) f last i l = subst (λ (x : Entry). HasLast x last) (sym i) l
+same_last k (Lost c) f last i l = tt
+same_last k (Expire session zxid now) f last i l = subst (λ (x : Entry). HasLast x last) (sym i) l
 
 -- the filled order may come where the store's does
 pub legal_sim : (k : EntryKeys) (w : AreKeys k.names) (naming : Naming) (names : IsNaming (IsSealedName k.names) naming) (passwords : ℤ → List ℕ) (es fs : List Entry) (as_ gs : List Act) (s t : State)
@@ -140,7 +140,7 @@ legal_sim k w naming names passwords (e ∷ es) (f ∷ fs) [] (g ∷ gs) s t i v
 legal_sim k w naming names passwords (e ∷ es) (f ∷ fs) (a ∷ as_) [] s t i v h l = absurd v
 legal_sim k w naming names passwords (e ∷ es) (f ∷ fs) (a ∷ as_) (g ∷ gs) s t i v h l =
     let n = step_sim k w naming names s t a g v.0 h in (
-      record { may = may_come k passwords s t e f h i.0 l.0.may; last_is = same_zxid k e f i.0 ∙ l.0.last_is ∙ sym n.state.last },
+      record { may = may_come k passwords s t e f h i.0 l.0.may; last_is = subst (HasLast e) (sym n.state.last) (same_last k e f _ i.0 l.0.last_is) },
       legal_sim k w naming names passwords es fs as_ gs _ _ i.1 v.1 n.state l.1,
     )
 
@@ -153,8 +153,8 @@ no_connect k c [] (f ∷ fs) i h = absurd i
 no_connect k c (e ∷ es) [] i h = absurd i
 no_connect k c (Take d xid r zxid now ∷ es) (Take d' x' v' z' n' ∷ fs) i h = no_connect k c es fs i.1 h
 no_connect k c (Take d xid r zxid now ∷ es) (f ∷ fs) i h = absurd i.0
-no_connect k c (Connect d asked given zxid now ∷ es) (f ∷ fs) i h = let j = subst (λ (x : Entry). HasNoConnect c (x ∷ fs)) (sym i.0) h in (j.0, no_connect k c es fs i.1 j.1)
-no_connect k c (Lost d zxid ∷ es) (f ∷ fs) i h = let j = subst (λ (x : Entry). HasNoConnect c (x ∷ fs)) (sym i.0) h in no_connect k c es fs i.1 j
+no_connect k c (Connect d asked session timeout password zxid now ∷ es) (f ∷ fs) i h = let j = subst (λ (x : Entry). HasNoConnect c (x ∷ fs)) (sym i.0) h in (j.0, no_connect k c es fs i.1 j.1)
+no_connect k c (Lost d ∷ es) (f ∷ fs) i h = let j = subst (λ (x : Entry). HasNoConnect c (x ∷ fs)) (sym i.0) h in no_connect k c es fs i.1 j
 no_connect k c (Expire session zxid now ∷ es) (f ∷ fs) i h = let j = subst (λ (x : Entry). HasNoConnect c (x ∷ fs)) (sym i.0) h in no_connect k c es fs i.1 j
 
 pub connects_once : (k : EntryKeys) (es fs : List Entry) → Zips (VeilsEntry k) es fs → ConnectsOnce fs → ConnectsOnce es
@@ -164,6 +164,6 @@ connects_once k [] (f ∷ fs) i h = absurd i
 connects_once k (e ∷ es) [] i h = absurd i
 connects_once k (Take d xid r zxid now ∷ es) (Take d' x' v' z' n' ∷ fs) i h = connects_once k es fs i.1 h
 connects_once k (Take d xid r zxid now ∷ es) (f ∷ fs) i h = absurd i.0
-connects_once k (Connect d asked given zxid now ∷ es) (f ∷ fs) i h = let j = subst (λ (x : Entry). ConnectsOnce (x ∷ fs)) (sym i.0) h in (no_connect k d es fs i.1 j.0, connects_once k es fs i.1 j.1)
-connects_once k (Lost d zxid ∷ es) (f ∷ fs) i h = let j = subst (λ (x : Entry). ConnectsOnce (x ∷ fs)) (sym i.0) h in connects_once k es fs i.1 j
+connects_once k (Connect d asked session timeout password zxid now ∷ es) (f ∷ fs) i h = let j = subst (λ (x : Entry). ConnectsOnce (x ∷ fs)) (sym i.0) h in (no_connect k d es fs i.1 j.0, connects_once k es fs i.1 j.1)
+connects_once k (Lost d ∷ es) (f ∷ fs) i h = let j = subst (λ (x : Entry). ConnectsOnce (x ∷ fs)) (sym i.0) h in connects_once k es fs i.1 j
 connects_once k (Expire session zxid now ∷ es) (f ∷ fs) i h = let j = subst (λ (x : Entry). ConnectsOnce (x ∷ fs)) (sym i.0) h in connects_once k es fs i.1 j
