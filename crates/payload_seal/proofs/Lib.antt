@@ -1,3 +1,5 @@
+pub mod Places
+pub mod NotLong
 pub mod Parts
 pub mod Decided
 pub mod Later

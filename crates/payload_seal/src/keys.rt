@@ -29,21 +29,20 @@ pub struct PayloadKeys {
 }
 
 impl Model for PayloadKeys {
-    ghost use Rattle.std.specs.Prelude.{◌-◌, ℕ, suc, List, length, take};
-    ghost use Rattle.std.proofs.Common.{sym};
+    ghost use Rattle.std.specs.Prelude.{◌+◌, ◌-◌, ℕ, List, length, take};
     ghost use Rattle.payload_seal.specs.Keys.{HoldsKeys, key_of, places_of};
-    ghost use Rattle.payload_seal.specs.Held.{held_epoch, held_ready};
+    ghost use Rattle.payload_seal.specs.Held.{held_epoch, held_places, held_ready};
 
     ghost Value = { List (List ℕ) };
 
-    ghost view = { λ k. take (suc k.epoch) k.places };
+    ghost view = { λ k. take (k.epoch + 1) k.places };
 
     ghost invariant = { λ k. HoldsKeys k.places k.epoch k.ready };
 
     ghost inverse = { λ v. record { places = places_of v; epoch = length v - 1; ready = key_of v (length v - 1) } };
 
     ghost inverse_ok = { λ k h i. record {
-      places = sym h.filled i;
+      places = held_places h i;
       epoch = held_epoch h i;
       ready = held_ready h i;
     } };
