@@ -1,4 +1,5 @@
 pub mod Places
+pub mod Files
 pub mod NotLong
 pub mod Parts
 pub mod Decided
