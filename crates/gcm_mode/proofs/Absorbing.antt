@@ -27,18 +27,25 @@ blocks_in_front x y zero h = refl
 blocks_in_front x y (suc n) h =
     (λ i. blocks_in_front x y n (omega arith) i ++ from_be_bytes w128 (block_in_front x y n (omega arith) i) ∷ [])
 
-block_behind : (x y : List ℕ) (m n : ℕ) → length x ≡ 16 * m → padded_block (x ++ y) (n + m) ≡ padded_block y n
+pub block_behind : (x y : List ℕ) (m n : ℕ) → length x ≡ 16 * m → padded_block (x ++ y) (n + m) ≡ padded_block y n
 block_behind x y m n h =
     let split : 16 * (n + m) ≡ 16 * m + 16 * n = omega arith in
     let there : drop (16 * (n + m)) (x ++ y) ≡ drop (16 * n) y =
     ap (λ (k : ℕ). drop k (x ++ y)) split ∙ sym (drop-drop (16 * n) (16 * m) (x ++ y)) ∙ ap (drop (16 * n)) (drop_at x y (16 * m) h) in
     ap (λ (l : List ℕ). take 16 (l ++ replicate 16 0)) there
 
+one_block_more : (x : List ℕ) (n j : ℕ) → j ≡ suc n → blocks x j ≡ blocks x n ++ from_be_bytes w128 (padded_block x n) ∷ []
+unfolding blocks
+one_block_more x n j e = ap (blocks x) e
+
 pub blocks_behind : (x y : List ℕ) (m n : ℕ) → length x ≡ 16 * m → blocks (x ++ y) (n + m) ≡ blocks x m ++ blocks y n
 unfolding blocks
-blocks_behind x y m zero h = blocks_in_front x y m (omega arith) ∙ sym (append-nil (blocks x m))
+blocks_behind x y m zero h =
+    let count : 0 + m ≡ m = omega arith in
+    ap (blocks (x ++ y)) count ∙ blocks_in_front x y m (omega arith) ∙ sym (append-nil (blocks x m))
 blocks_behind x y m (suc n) h =
-    (λ i. blocks_behind x y m n h i ++ from_be_bytes w128 (block_behind x y m n h i) ∷ [])
+    one_block_more (x ++ y) (n + m) (suc n + m) (omega arith)
+    ∙ (λ i. blocks_behind x y m n h i ++ from_be_bytes w128 (block_behind x y m n h i) ∷ [])
     ∙ append_assoc (blocks x m) (blocks y n) (from_be_bytes w128 (padded_block y n) ∷ [])
 
 -- ---- a block that fills up
