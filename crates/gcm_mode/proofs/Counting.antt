@@ -138,8 +138,8 @@ block_covered now k iv x padded cb m sealed part n at size width h fits held ep 
     let back : drop (16 * n) now ≡ rest = ap (drop (16 * n)) held ∙ drop_at g rest (16 * n) len in
     let size_is : size ≡ min (length rest) 16 = es ∙ ap (λ (l : ℕ). min l 16) (omega arith) in
     let mask : m ≡ Aes k (counter b n) = em ∙ ap (Aes k) (ec ∙ sym (counter_is iv n h fits)) in
-    let open : padded ≡ padded_block x n = ep ∙ ap (λ (l : List ℕ). take 16 (l ++ replicate 16 0)) back in
-    let taken : take size padded ≡ take 16 rest = ap (take size) open ∙ front_of_padded rest size size_is in
+    let kept : padded ≡ padded_block x n = ep ∙ ap (λ (l : List ℕ). take 16 (l ++ replicate 16 0)) back in
+    let taken : take size padded ≡ take 16 rest = ap (take size) kept ∙ front_of_padded rest size size_is in
     let own : part ≡ xor_bytes (take 16 rest) (Aes k (counter b n)) =
     epart ∙ ap (take size) ex ∙ take-xor size padded m ∙ (λ i. xor_bytes (taken i) (mask i)) in
     let left : drop size rest ≡ drop (16 * (n + 1)) x =
@@ -157,3 +157,11 @@ all_covered now k iv x n done held =
     let b : List ℕ = inc32 (first_counter iv) in
     held ∙ ap (λ (l : List ℕ). gctr_blocks k b x n ++ l) (drop_all (16 * n) x (omega arith)) ∙ append-nil (gctr_blocks k b x n)
     ∙ ap (gctr_blocks k b x) done
+
+-- what stood before a text that was covered
+pub covered_behind : (was pushed items text k j iv : List ℕ) (start : ℕ) → pushed ≡ was ++ text → start ≡ length was → j ≡ k
+    → items ≡ take start pushed ++ text_under j iv (drop start pushed) → items ≡ was ++ text_under k iv text
+covered_behind was pushed items text k j iv start ep es ej e =
+    let front : take start pushed ≡ was = ap (take start) ep ∙ take_at was text start (sym es) in
+    let back : drop start pushed ≡ text = ap (drop start) ep ∙ drop_at was text start (sym es) in
+    e ∙ (λ i. front i ++ text_under (ej i) iv (back i))
