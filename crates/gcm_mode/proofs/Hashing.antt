@@ -38,7 +38,7 @@ unfolding ghash
 ghash-append h y [] bs = refl
 ghash-append h y (a ∷ xs) bs = ghash-append h (times (bit_xor y a) h) xs bs
 
-ghash_one : (h y b : ℕ) → ghash h y (b ∷ []) ≡ times (bit_xor y b) h
+pub ghash_one : (h y b : ℕ) → ghash h y (b ∷ []) ≡ times (bit_xor y b) h
 unfolding ghash
 ghash_one h y b = refl
 

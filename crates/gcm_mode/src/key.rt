@@ -14,7 +14,7 @@ use std::marker::Model;
 #[derive(Clone, Copy)]
 pub struct GcmKey {
     cipher: Key,
-    hash_key: u128,
+    hash: u128,
 }
 
 impl Model for GcmKey {
@@ -25,9 +25,9 @@ impl Model for GcmKey {
 
     ghost view = { λ k. k.cipher };
 
-    ghost invariant = { λ k. k.hash_key ≡ hash_key k.cipher };
+    ghost invariant = { λ k. k.hash ≡ hash_key k.cipher };
 
-    ghost inverse = { λ v. record { cipher = v; hash_key = hash_key v } };
+    ghost inverse = { λ v. record { cipher = v; hash = hash_key v } };
 }
 
 impl GcmKey {
@@ -36,8 +36,8 @@ impl GcmKey {
         ensures { result ≡ bytes }
     {
         let cipher = Key::new(bytes);
-        let hash_key = u128::from_be_bytes(cipher.encrypt([0; 16]));
-        GcmKey { cipher, hash_key }
+        let hash = u128::from_be_bytes(cipher.encrypt([0; 16]));
+        GcmKey { cipher, hash }
     }
 
     /// The key of the cipher.
@@ -51,6 +51,6 @@ impl GcmKey {
     pub(crate) fn hash_key(&self) -> u128
         ensures { result ≡ hash_key self.now }
     {
-        self.hash_key
+        self.hash
     }
 }
