@@ -13,7 +13,7 @@ use Rattle.std.proofs.lemmas.Bool.{cases_Bool, leb-true, le-leb, eqb-true}
 use Rattle.std.proofs.lemmas.Bool.Decides.{Decides-eqb, leb_tells}
 use Rattle.std.specs.Int.RustNames.{FitsSigned}
 use Rattle.std.proofs.lemmas.Int.{to_z-of_z, by_lt_z}
-use Rattle.zk_path.specs.Paths.{text_of}
+use Rattle.zk_path.specs.Paths.{text_of, IsTextOf}
 use Rattle.zk_records.specs.declared.stat.Stat.{Stat}
 use Rattle.zk_messages.specs.declared.reply.OpResult.{OpResult}
 use Rattle.zk_messages.specs.declared.reply.OpResult.TheVariants as results
@@ -28,7 +28,7 @@ use Rattle.tree_state.specs.declared.node.Node as code
 use Rattle.tree_state.specs.declared.places.Places.{Places}
 use Rattle.tree_state.specs.declared.session.Sessions.{Sessions}
 use Rattle.tree_state.specs.declared.watches.Watches.{Watches}
-use Rattle.tree_state.specs.Commands.{IsTextOf, create, delete, set_content, check, set_acl}
+use Rattle.tree_state.specs.Commands.{create, delete, set_content, check, set_acl}
 use Rattle.tree_state.specs.Nodes.{Path, Node, Place, above, find, is_there, change, add, remove, children, has_children, ephemerals, stat_of, size_of, greatest_int}
 use Rattle.tree_state.specs.State.{State, Session, Watch, left, on_data}
 use Rattle.tree_state.specs.Changes.{Trial, failed, done, Naming, Effect, perform, has_owner, is_at_last, is_other_version, name_for, fresh_numbers, with_creation, with_deletion, with_content, with_acl, creation_events, left_by_creation, deletion_events, left_by_deletion, content_events, created, deleted, updated, no_node, bad_version, not_empty, node_exists, no_children_for_ephemerals, system_error}

@@ -4,6 +4,7 @@ use Rattle.std.specs.Global.{Global}
 use Rattle.std.specs.Prelude.{◌↔◌}
 use Rattle.std.specs.Result.{IsErrAnd}
 use Rattle.std.proofs.lemmas.Result.{err_from_is_err_and}
+use Rattle.zk_path.specs.Paths.{IsTextOf}
 use Rattle.zk_records.specs.declared.create.CreateRequest.{CreateRequest}
 use Rattle.zk_messages.specs.declared.reply.OpResult.{OpResult}
 use Rattle.tree_state.specs.declared.held.Held.{Held}
@@ -13,7 +14,7 @@ use Rattle.tree_state.specs.declared.message.Output.{Output}
 use Rattle.tree_state.specs.declared.node.Moment.{Moment}
 use Rattle.tree_state.specs.Nodes.{Path, Node}
 use Rattle.tree_state.specs.State.{State}
-use Rattle.tree_state.specs.Commands.{IsTextOf, IsCreate, IsEphemeral, create}
+use Rattle.tree_state.specs.Commands.{IsCreate, IsEphemeral, create}
 use Rattle.tree_state.specs.Changes.{Naming, Trial, failed, done, Effect, perform, name_for, bad_arguments}
 use Rattle.tree_state.specs.Trees.{Means, Performs, MayCreate, IsParent, IsNamedTo, name_at}
 use Rattle.tree_state.proofs.Names.{name_of_parent}

@@ -6,7 +6,7 @@ use Rattle.std.specs.List.{AllZip}
 use Rattle.std.proofs.lemmas.Bool.{false≢true}
 use Rattle.std.proofs.lemmas.List.Elements.{All-head, All-tail}
 use Rattle.std.proofs.lemmas.Option.{none-some}
-use Rattle.zk_path.specs.Paths.{text_of, IsPathText, IsStemText}
+use Rattle.zk_path.specs.Paths.{text_of, IsPathText, IsStemText, IsTextOf, IsNamed}
 use Rattle.zk_path.proofs.Stable.{dec_of}
 use Rattle.zk_records.specs.declared.create.CreateRequest.{CreateRequest}
 use Rattle.zk_messages.specs.Refuses.{Refuses, RefusesCreate, RefusesOp, IsRootText, IsSequential, ArePaths}
@@ -16,7 +16,7 @@ use Rattle.zk_messages.specs.declared.request.Request.{Request}
 use Rattle.zk_messages.specs.declared.request.Request.TheVariants as requests
 use Rattle.zk_messages.proofs.Allowed.{path_allowed, node_allowed, create_named, acl_path, watches_allowed, ops_allowed, dec_sequential, stem_for, path_for, not_first}
 use Rattle.tree_state.specs.Nodes.{Path}
-use Rattle.tree_state.specs.Commands.{Change, create, delete, set_content, check, Command, single, multi, set_acl, stat_at, get_content, get_acl, get_children, sync, ping, set_watches, close, IsTextOf, AreTextsOf, IsEphemeral, IsNamed, IsCreate, IsChange, Asks}
+use Rattle.tree_state.specs.Commands.{Change, create, delete, set_content, check, Command, single, multi, set_acl, stat_at, get_content, get_acl, get_children, sync, ping, set_watches, close, AreTextsOf, IsEphemeral, IsCreate, IsChange, Asks}
 
 -- ---- texts
 

@@ -1,6 +1,7 @@
 -- One operation of a multi is the change that it asks for.
 use Rattle.std.proofs.Common.{◌≡◌, ℕ, ℤ, Bool, List, ◌∷◌, Option, None, Result, Vec, refl, sym, ap, subst, ◌∙◌}
 use Rattle.std.specs.Global.{Global}
+use Rattle.zk_path.specs.Paths.{IsTextOf}
 use Rattle.zk_records.specs.declared.create.CreateRequest.{CreateRequest}
 use Rattle.zk_records.specs.declared.node.DeleteRequest.{DeleteRequest}
 use Rattle.zk_records.specs.declared.node.SetContentRequest.{SetContentRequest}
@@ -15,7 +16,7 @@ use Rattle.tree_state.specs.declared.message.Output.{Output}
 use Rattle.tree_state.specs.declared.node.Moment.{Moment}
 use Rattle.tree_state.specs.Nodes.{Path}
 use Rattle.tree_state.specs.State.{State}
-use Rattle.tree_state.specs.Commands.{Change, IsChange, IsCreate, IsTextOf, create, delete, set_content, check}
+use Rattle.tree_state.specs.Commands.{Change, IsChange, IsCreate, create, delete, set_content, check}
 use Rattle.tree_state.specs.Changes.{Naming, perform}
 use Rattle.tree_state.specs.Trees.{Performs}
 use Rattle.zk_messages.specs.Short.{HasShortOpParts, IsShort, IsShortContent}

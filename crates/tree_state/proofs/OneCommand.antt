@@ -4,6 +4,7 @@ use Rattle.std.specs.List.{AllZip}
 use Rattle.std.proofs.lemmas.Bool.{false≢true}
 use Rattle.std.proofs.lemmas.Option.{none-some, same_Some}
 use Rattle.zk_path.proofs.Judged.{one_stem_text}
+use Rattle.zk_path.specs.Paths.{IsTextOf, IsNamed}
 use Rattle.zk_records.specs.declared.create.CreateRequest.{CreateRequest}
 use Rattle.zk_records.specs.declared.path_watch.PathWatch.{PathWatch}
 use Rattle.zk_records.specs.declared.set_watches.SetWatches.{SetWatches}
@@ -14,7 +15,7 @@ use Rattle.zk_messages.specs.declared.request.Request.{Request}
 use Rattle.zk_messages.specs.declared.request.Request.TheVariants as requests
 use Rattle.zk_messages.proofs.FirstRules.{one_outcome}
 use Rattle.tree_state.specs.Nodes.{Path}
-use Rattle.tree_state.specs.Commands.{Change, create, delete, set_content, check, Command, refused, single, multi, set_acl, stat_at, get_content, get_acl, get_children, sync, IsTextOf, AreTextsOf, IsNamed, IsCreate, IsChange, Asks, IsCommand}
+use Rattle.tree_state.specs.Commands.{Change, create, delete, set_content, check, Command, refused, single, multi, set_acl, stat_at, get_content, get_acl, get_children, sync, AreTextsOf, IsCreate, IsChange, Asks, IsCommand}
 use Rattle.tree_state.specs.Laws.{IsOneCommand}
 use Rattle.tree_state.proofs.EveryCommand.{some_asked}
 use Rattle.tree_state.proofs.PathTexts.{one_path}

@@ -2,6 +2,7 @@
 use Rattle.std.proofs.Common.{◌≡◌, ℕ, ℤ, Bool, true, false, List, [], ◌∷◌, ◌++◌, Option, Some, None, Result, Ok, Err, refl, sym, ap, subst, ◌∙◌}
 use Rattle.std.specs.Prelude.{IfOk, IsErrAnd}
 use Rattle.jute_core.specs.declared.held.Bytes.{Bytes}
+use Rattle.zk_path.specs.Paths.{IsTextOf}
 use Rattle.zk_records.specs.declared.create.CreateRequest.{CreateRequest}
 use Rattle.zk_records.specs.declared.set_watches.SetWatches.{SetWatches}
 use Rattle.zk_messages.specs.declared.request.Op.{Op}
@@ -20,7 +21,7 @@ use Rattle.tree_state.specs.declared.held.Held.{Held}
 use Rattle.tree_state.specs.declared.node.Moment.{Moment}
 use Rattle.tree_state.specs.Nodes.{Path, ephemerals}
 use Rattle.tree_state.specs.State.{State, Session, Watch, left_of_others, session_at, without_session}
-use Rattle.tree_state.specs.Commands.{Command, Asks, IsTextOf, AreTextsOf, single, set_acl, stat_at, get_content, get_acl, get_children, sync, ping, set_watches, close, delete, set_content}
+use Rattle.tree_state.specs.Commands.{Command, Asks, AreTextsOf, single, set_acl, stat_at, get_content, get_acl, get_children, sync, ping, set_watches, close, delete, set_content}
 use Rattle.tree_state.specs.Changes.{Naming, perform, deleted, no_effects, all_deleted}
 use Rattle.tree_state.specs.Step.{Answer, answer, answer_single, told_only, closed, ended, watches_gone, connection_at}
 use Rattle.tree_state.specs.Trees.{Means, Answers, HasRoom, Tells, IsOther}

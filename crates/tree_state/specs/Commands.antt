@@ -1,7 +1,7 @@
 -- What a request asks of the machine, with paths in place of their texts.
 use Rattle.std.specs.Prelude.{◌≡◌, ◌⊎◌, ℕ, ℤ, pos, List, [], ◌∷◌, Bool, true, false, Option, Some, None, IsTrue, ◌↔◌}
 use Rattle.std.specs.List.{AllZip}
-use Rattle.zk_path.specs.Paths.{IsPath, IsStem, joined, text_of}
+use Rattle.zk_path.specs.Paths.{IsTextOf, IsNamed}
 use Rattle.zk_records.specs.declared.create.CreateRequest.{CreateRequest}
 use Rattle.zk_messages.specs.Refuses.{Refuses, IsSequential}
 use Rattle.zk_messages.specs.declared.request.Op.{Op}
@@ -37,11 +37,6 @@ pub data Command : Type 0 where
   set_watches : ℤ → List Path → List Path → List Path → Command
   close : Command
 
--- the text is this legal path's
-pub record IsTextOf (text : List ℕ) (p : Path) : Type 0 where
-  pub legal : IsPath p
-  pub spelled : text ≡ text_of p
-
 -- a null list has no paths
 unfoldable pub AreTextsOf : Option (List (List ℕ)) → List Path → Type 0
 AreTextsOf None ps = ps ≡ []
@@ -50,11 +45,6 @@ AreTextsOf (Some texts) ps = AllZip IsTextOf texts ps
 -- flags of an ephemeral node
 abbrev pub IsEphemeral : ℤ → Type 0
 IsEphemeral flags = (flags ≡ pos 1) ⊎ (flags ≡ pos 3)
-
--- where a number will follow, the text is that of a stem, and else of a path
-unfoldable pub IsNamed : Bool → List ℕ → Path → Type 0
-IsNamed true text p = IsStem p × (text ≡ joined p)
-IsNamed false text p = IsTextOf text p
 
 pub record IsCreate (r : CreateRequest) (p : Path) (n : List ℕ) (content : Option (List ℕ)) (sequential ephemeral : Bool) : Type 0 where
   pub named : IsNamed sequential r.path (n ∷ p)

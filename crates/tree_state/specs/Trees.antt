@@ -2,7 +2,7 @@
 use Rattle.std.specs.Prelude.{◌≡◌, ◌≤ℤ◌, ◌<ℤ◌, ◌<◌, ◌+◌, ℕ, suc, ℤ, pos, List, [], ◌∷◌, ◌++◌, replicate, Bool, true, false, Option, Some, None, Result, Ok, Err, All, IfErr, Vec, vec_len, vec_capacity}
 use Rattle.std.specs.Global.{Global}
 use Rattle.jute_core.specs.declared.held.Memory.{Memory}
-use Rattle.zk_path.specs.Paths.{IsStem, joined, text_of}
+use Rattle.zk_path.specs.Paths.{IsStem, joined, text_of, IsTextOf}
 use Rattle.zk_messages.specs.declared.reply.OpResult.{OpResult}
 use Rattle.zk_messages.specs.declared.reply.Outcome.{Outcome}
 use Rattle.zk_messages.specs.declared.request.Request.{Request}
@@ -16,7 +16,7 @@ use Rattle.tree_state.specs.declared.message.Output.{Output}
 use Rattle.tree_state.specs.declared.node.Moment.{Moment}
 use Rattle.tree_state.specs.Nodes.{Path, Node, find, has_children, ephemerals}
 use Rattle.tree_state.specs.State.{State, Session, session_of}
-use Rattle.tree_state.specs.Commands.{IsTextOf, create}
+use Rattle.tree_state.specs.Commands.{create}
 use Rattle.tree_state.specs.Changes.{Naming, Trial, failed, done, Effect, Effects, has_owner, is_at_last, perform, runtime_inconsistency}
 use Rattle.tree_state.specs.Step.{Answer, Act, step}
 use Rattle.tree_state.specs.Places.{Holds}

@@ -2,8 +2,9 @@
 
 ghost use Rattle.std.specs.Prelude.{◌≡◌, ◌≤◌, ◌<◌, ℕ, List, ◌∷◌, length, Bool, false, Ok, Some, IfOk, OnOk, OnErr, Vec};
 ghost use Rattle.std.specs.Global.{Global as G};
+ghost use Rattle.zk_path.specs.Paths.{IsTextOf};
 ghost use Rattle.tree_state.specs.declared.message.Output.{Output as PlainOutput};
-ghost use Rattle.tree_state.specs.Commands.{IsTextOf, set_acl, create, delete, set_content, check};
+ghost use Rattle.tree_state.specs.Commands.{set_acl, create, delete, set_content, check};
 ghost use Rattle.tree_state.specs.Nodes.{Path, Node, find, has_children, stat_of, greatest_int};
 ghost use Rattle.tree_state.specs.State.{State};
 ghost use Rattle.tree_state.specs.Changes.{Naming, perform, name_for, is_other_version, deleted};

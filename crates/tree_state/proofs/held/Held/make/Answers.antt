@@ -1,8 +1,8 @@
 use Rattle.std.proofs.Common.{◌≡◌, Bool, List, ℕ, ◌∷◌, sym, subst, rules, w32}
 use Rattle.std.specs.Int.RustNames.{FitsSigned}
 use Rattle.std.proofs.lemmas.Int.{to_z-of_z}
+use Rattle.zk_path.specs.Paths.{IsTextOf, IsNamed}
 use Rattle.tree_state.specs.Nodes.{Path}
-use Rattle.tree_state.specs.Commands.{IsTextOf, IsNamed}
 use Rattle.tree_state.proofs.Names.{parent_text}
 use Rattle.tree_state.proofs.Creating.{create_refused, create_no_name, memory_performs, creates}
 use Rattle.tree_state.proofs.held.Held.make.Goals as goal

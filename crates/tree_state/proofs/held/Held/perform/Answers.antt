@@ -1,8 +1,8 @@
 use Rattle.std.proofs.Common.{◌≡◌, List, ℕ, sym, subst, rules, w32}
 use Rattle.std.specs.Int.RustNames.{FitsSigned}
 use Rattle.std.proofs.lemmas.Int.{to_z-of_z}
+use Rattle.zk_path.specs.Paths.{IsTextOf}
 use Rattle.tree_state.specs.Nodes.{Path}
-use Rattle.tree_state.specs.Commands.{IsTextOf}
 use Rattle.tree_state.proofs.OneChange.{short_creation, short_content, op_create, op_delete, op_set_content, op_check}
 use Rattle.tree_state.proofs.held.Held.perform.Goals as goal
 
