@@ -304,8 +304,19 @@ fn say<E: Sink>(status: Status, text: &[u8], err: &mut E) -> Status
     }
 }
 
-// Says why a run stopped, and answers its status.
+/// Says that there was no memory, and answers that status, as where the words of a command line could not be had.
 #[tactic(auto, unfolding(crate::specs::Printed::line))]
+pub fn say_no_memory<E: Sink>(err: &mut E) -> Status
+    ensures memory { result ≢ Status.WriteFault → (result ≡ Status.Memory)
+        × Wrote (E.taken err.old) (E.taken err.new) (line (codes "no memory") []) }
+    ensures fault { result ≡ Status.WriteFault → Rose (E.faults err.old) (E.faults err.new) }
+    ensures tells { result ≡ Status.WriteFault → FailsToTell (E.faults err.old)
+        (E.faults err.new) (E.taken err.old) (E.taken err.new) (line (codes "no memory") []) }
+{
+    say(Status::Memory, b"no memory\n", err)
+}
+
+// Says why a run stopped, and answers its status.
 fn complain<E: Sink>(alloc: Global, stop: Stop<'_>, err: &mut E) -> Status
     ensures status { (result ≡ status_of stop.entry) ⊎ (result ≡ Status.Memory)
         ⊎ (result ≡ Status.WriteFault) }
@@ -320,7 +331,7 @@ fn complain<E: Sink>(alloc: Global, stop: Stop<'_>, err: &mut E) -> Status
 {
     match complaint(alloc, stop) {
         Ok(text) => say(status_of(stop), text.as_bytes(), err),
-        Err(_) => say(Status::Memory, b"no memory\n", err),
+        Err(_) => say_no_memory(err),
     }
 }
 
