@@ -9,7 +9,7 @@ use Rattle.replay_cli.specs.declared.top_call.Stop.TheVariants.{BadWords, Unread
 use Rattle.replay_cli.specs.Script.{IsScript, lines}
 use Rattle.replay_cli.specs.Told.{Told}
 use Rattle.replay_cli.specs.Sinks.{TellsFault, fault_line}
-use Rattle.replay_cli.specs.Words.{Words, word, IsReplay, IsHostile, IsShow, IsUnbuilt, ReadsFiles, Fits, IsFileOf}
+use Rattle.replay_cli.specs.Words.{Words, word, IsReplay, IsHostile, IsShow, IsUnbuilt, ReadsFiles, Fits}
 use Rattle.replay_cli.specs.Run.{Prints, IsBuilt, IsBuiltScript, CannotBuild, IsLongOf, HasLong, StopsAtFile, IsNotBuilt}
 use Rattle.replay_cli.specs.Stops.{Because, IsUnreadOf, IsUnread}
 use Rattle.replay_cli.proofs.ReadingLemmas.{one_script}
