@@ -1,0 +1,127 @@
+-- What a session of an orderly connection handed down.
+use Rattle.std.proofs.Common.{◌≡◌, ℕ, suc, ℤ, pos, List, [], ◌∷◌, ◌++◌, Option, Some, None, length, refl, sym, ap, subst, ◌∙◌, arith, length-append, append-nil}
+use Rattle.std.specs.Prelude.{◌<ℤ◌}
+use Rattle.path_seal.specs.Sealed.{AreKeys}
+use Rattle.payload_seal.specs.declared.keys.EntryKeys.{EntryKeys}
+use Rattle.request_queue.specs.declared.asked.Asked.TheVariants as asks
+use Rattle.zk_records.specs.declared.connect.ConnectResponse.{ConnectResponse}
+use Rattle.zk_messages.specs.declared.reply.Event.{Event}
+use Rattle.zk_messages.specs.declared.reply.Reply.{Reply}
+use Rattle.tree_state.specs.declared.message.Message.{Message}
+use Rattle.tree_state.specs.declared.message.Message.TheVariants as messages
+use Rattle.tree_state.specs.State.{start}
+use Rattle.tree_state.specs.Plain.{plain}
+use Rattle.tree_state.specs.Step.{Act}
+use Rattle.tree_server.specs.Messages.{SpellsMessage}
+use Rattle.tree_server.specs.Out.{out}
+use Rattle.tree_server.proofs.Zipping.{Zips}
+use Rattle.sealed_machine.specs.Runs.{Question, Talks, silent, told_event, told_reply, told_session, all_asked, HasNoConnected}
+use Rattle.entry_session.specs.declared.ending.Ending.{Ending}
+use Rattle.entry_session.specs.declared.ending.Ending.TheVariants as endings
+use Rattle.entry_session.specs.ClientTurns.{ClientTurn, malformed_frame, full_queue, spent_ivs, handed_up}
+use Rattle.entry_session.specs.Heard.{Heard, from_client, from_store, bad_client, bad_store, given, store_frames, bad_of_store}
+use Rattle.entry_session.specs.Runs.{TurnOf, Ran, store_limit, IsGivenEnding}
+use Rattle.entry_session.specs.Stands.{Stand, fresh, ends}
+use Rattle.entry_session.proofs.Turns.{goes, some_none}
+use Rattle.session_law.specs.Law.{AreBehind, IsHonestEnd}
+use Rattle.session_law.proofs.Words.{SpellsFront, IsBegun, IsOrderly, unheard, heard}
+use Rattle.session_law.proofs.SessionStands.{Reached}
+use Rattle.session_law.proofs.OneSession.{one_session}
+
+-- ---- lists
+
+empty_left : {A : Type 0} (xs : List A) → length xs ≡ 0 → xs ≡ []
+empty_left [] e = refl
+empty_left (x ∷ xs) e = absurd (omega (arith, e))
+
+as_long : (k : EntryKeys) (qs : List Question) (ms ns : List Message) → Talks k qs ms ns → length ms ≡ length ns
+as_long k qs ms ns silent = refl
+as_long k qs ms ns (told_event e f a ms' ns' i t) = ap suc (as_long k a ms' ns' t)
+as_long k qs ms ns (told_reply q r f a ms' ns' x i t) = ap suc (as_long k a ms' ns' t)
+as_long k qs ms ns (told_session r a ms' ns' t) = ap suc (as_long k a ms' ns' t)
+
+-- ---- what was told
+
+-- a closed session: the last that it asked, of what was answered, is a closeSession
+pub record IsLastClosed (k : EntryKeys) (qs : List Question) (left : List Message) : Type 0 where
+  pub before : List Question
+  pub last : Question
+  pub open_ : List Question
+  pub closes : last.asked ≡ asks.Close
+  pub asked : qs ≡ (before ++ last ∷ []) ++ open_
+  pub to_come : List Message
+  pub talks : Talks k open_ left to_come
+
+-- of the plain messages and of those that the store told, with what was heard
+pub record IsTold (k : EntryKeys) (qs : List Question) (plain_messages told : List Message) (hs : List Heard) (s : Stand) : Type 0 where
+  pub done : List Message
+  pub left : List Message
+  pub front : plain_messages ≡ done ++ left
+  pub down : Zips SpellsMessage done s.down
+  pub none : s.findings ≡ []
+  pub honest : IsHonestEnd s.ending
+  pub all : length told ≡ length (store_frames hs) → left ≡ []
+  pub closed : s.ending ≡ Some endings.Closed → IsLastClosed k qs left
+
+-- ---- a session to which nothing came
+
+record Unheard (s : Stand) : Type 0 where
+  down : s.down ≡ []
+  none : s.findings ≡ []
+  honest : IsHonestEnd s.ending
+  unclosed : s.ending ≡ Some endings.Closed → ⊥
+
+unheard_at : (s t : Stand) → t ≡ s → Unheard s → Unheard t
+unheard_at s t e h = subst Unheard (sym e) h
+
+closed_apart : (e : Ending) → (e ≡ endings.Closed → ⊥) → Some e ≡ Some endings.Closed → ⊥
+closed_apart e f g = f (some_same e endings.Closed g)
+  where
+    some_same : (a b : Ending) → Some a ≡ Some b → a ≡ b
+    some_same a b e = cc
+
+unheard_end : (s : Stand) (e : Ending) → IsHonestEnd (Some e) → (e ≡ endings.Closed → ⊥) → Unheard s → Unheard (ends s e)
+unheard_end s e honest f h = record { down = h.down; none = h.none; honest = honest; unclosed = closed_apart e f }
+
+too_long_apart : (z : ℤ) → endings.ClientTooLong z ≡ endings.Closed → ⊥
+too_long_apart z e = absurd cc
+
+unheard_client : (k : EntryKeys) (boot c : ℕ) (old : Stand) (body : List ℕ) (new : Stand) → ClientTurn k boot c old body new → Unheard old → Unheard new
+unfolding IsHonestEnd
+unheard_client k boot c old body new (malformed_frame refusal f) h = unheard_end old (endings.ClientMalformed refusal) tt (λ e. absurd cc) h
+unheard_client k boot c old body new (full_queue i f g) h = unheard_end old (endings.QueueFull _) tt (λ e. absurd cc) h
+unheard_client k boot c old body new (spent_ivs i n f g p l) h = unheard_end old endings.IvSpent tt (λ e. absurd cc) h
+unheard_client k boot c old body new (handed_up i v n out f g p l q o) h = record { down = h.down; none = h.none; honest = h.honest; unclosed = h.unclosed }
+
+not_last : {A : Type 0} (xs : List A) (x : A) → xs ++ x ∷ [] ≡ [] → ⊥
+not_last [] x e = absurd cc
+not_last (y ∷ xs) x e = absurd cc
+
+given_honest : (e : Ending) → IsGivenEnding e → IsHonestEnd (Some e) × (e ≡ endings.Closed → ⊥)
+unfolding IsHonestEnd IsGivenEnding
+given_honest endings.ClientEnd h = (tt, (λ e. absurd cc))
+given_honest endings.StoreEnd h = (tt, (λ e. absurd cc))
+given_honest endings.ClientFault h = (tt, (λ e. absurd cc))
+given_honest endings.StoreFault h = (tt, (λ e. absurd cc))
+given_honest endings.Turns h = (tt, (λ e. absurd cc))
+given_honest e h = absurd h
+
+unheard_turn : (k : EntryKeys) (boot c : ℕ) (old : Stand) (h : Heard) (hs : List Heard) (new : Stand) → store_frames (h ∷ hs) ≡ [] → ((z : ℤ) → bad_of_store (h ∷ hs) ≡ Some z → pos store_limit <ℤ z) → TurnOf k boot c old h new → Unheard old → Unheard new
+unfolding TurnOf store_frames bad_of_store IsHonestEnd
+unheard_turn k boot c old (from_client body) hs new none honest t x = unheard_client k boot c old body new t.1 x
+unheard_turn k boot c old (from_store body) hs new none honest t x = absurd (not_last (store_frames hs) body none)
+unheard_turn k boot c old (bad_client z) hs new none honest t x = unheard_at _ new t.1 (unheard_end old (endings.ClientTooLong z) tt (too_long_apart z) x)
+unheard_turn k boot c old (bad_store z) hs new none honest t x = unheard_at _ new t.1 (unheard_end old (endings.StoreTooLong z) (honest z refl) (λ e. absurd cc) x)
+unheard_turn k boot c old (given e) hs new none honest t x = let g = given_honest e t.0 in unheard_at _ new t.1 (unheard_end old e g.0 g.1 x)
+
+frames_before : (h : Heard) (hs : List Heard) → store_frames (h ∷ hs) ≡ [] → store_frames hs ≡ []
+unfolding store_frames
+frames_before (from_client body) hs e = e
+frames_before (from_store body) hs e = absurd (not_last (store_frames hs) body e)
+frames_before (bad_client z) hs e = e
+frames_before (bad_store z) hs e = e
+frames_before (given n) hs e = e
+
+unheard_fresh : Unheard fresh
+unfolding IsHonestEnd
+unheard_fresh = record { down = refl; none = refl; honest = tt; unclosed = λ e. absurd cc }
