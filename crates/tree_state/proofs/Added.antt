@@ -5,13 +5,12 @@ use Rattle.std.specs.Map.{set_value}
 use Rattle.std.specs.BTreeMap.{insert_entry}
 use Rattle.std.specs.BTreeSet.{BTreeSet}
 use Rattle.std.proofs.lemmas.Bool.{cases_Bool}
-use Rattle.zk_path.specs.Paths.{text_of}
+use Rattle.zk_path.specs.Paths.{text_of, IsTextOf}
 use Rattle.tree_state.specs.declared.node.Node as code
 use Rattle.tree_state.specs.declared.node.Moment.{Moment}
 use Rattle.tree_state.specs.declared.node.Numbers.{Numbers}
 use Rattle.tree_state.specs.declared.places.Places.{Places}
 use Rattle.tree_state.specs.Changes.{fresh_numbers, with_creation}
-use Rattle.tree_state.specs.Commands.{IsTextOf}
 use Rattle.tree_state.specs.Counts.{with_child, IsCountedIn}
 use Rattle.tree_state.specs.Nodes.{Path, Node, Place, same_path, find, is_there, change, add, children, child_names, placed, size_of, greatest_int}
 use Rattle.tree_state.specs.Places.{path_of, Entry, node_of, place_of, HasText, HasNames, IsRooted, IsSteady, Holds, content_limit, text_limit}

@@ -1,12 +1,11 @@
 -- What the maps of both aspects keep, and what they tell.
 use Rattle.std.proofs.Common.{◌≡◌, ℕ, pos, false, List, [], ◌∷◌, ◌++◌, filter, refl, sym, ap, ap₂, ◌∙◌, append_assoc}
-use Rattle.zk_path.specs.Paths.{text_of}
+use Rattle.zk_path.specs.Paths.{text_of, IsTextOf}
 use Rattle.tree_state.specs.declared.events.EventKind.TheVariants as kinds
 use Rattle.tree_state.specs.declared.message.Output.{Output}
 use Rattle.tree_state.specs.declared.watchers.Watchers.{Watchers}
 use Rattle.tree_state.specs.declared.watches.Watches.{Watches}
 use Rattle.tree_state.specs.Nodes.{Path, above}
-use Rattle.tree_state.specs.Commands.{IsTextOf}
 use Rattle.tree_state.specs.State.{Aspect, on_data, on_children, Watch, same_aspect, told, left, left_of_others, watching}
 use Rattle.tree_state.specs.Changes.{events_to, is_not_in, creation_events, left_by_creation, end_events, deletion_events, left_by_deletion, content_events}
 use Rattle.tree_state.specs.Watches.{Ascend, Watched, Watching, unwatching, number_of}

@@ -2,6 +2,7 @@
 use Rattle.std.proofs.Common.{◌≡◌, ℕ, ℤ, List, [], ◌++◌, Result, Ok, Err, refl, sym, ap, subst, ◌∙◌, append-nil}
 use Rattle.std.specs.Prelude.{Vec}
 use Rattle.std.specs.Global.{Global}
+use Rattle.zk_path.specs.Paths.{IsTextOf}
 use Rattle.zk_messages.specs.declared.reply.OpResult.{OpResult}
 use Rattle.zk_messages.specs.declared.reply.Outcome.{Outcome}
 use Rattle.zk_messages.specs.declared.reply.Outcome.TheVariants as outcomes
@@ -12,7 +13,7 @@ use Rattle.tree_state.specs.declared.message.Output.{Output}
 use Rattle.tree_state.specs.declared.node.Moment.{Moment}
 use Rattle.tree_state.specs.Nodes.{Path}
 use Rattle.tree_state.specs.State.{State}
-use Rattle.tree_state.specs.Commands.{IsTextOf, sync}
+use Rattle.tree_state.specs.Commands.{sync}
 use Rattle.tree_state.specs.Changes.{Naming, Trial, failed, done, Effect}
 use Rattle.tree_state.specs.Step.{Answer, answer, answer_single, outcome_of, with_error, told_only}
 use Rattle.tree_state.specs.Trees.{Means, Answers, AreTold, HasRoom, Quietly, Tells, Performs}

@@ -1,10 +1,9 @@
 -- A node that a request may change is not the root.
 use Rattle.std.proofs.Common.{◌≡◌, ℕ, List, [], ◌∷◌, None, refl}
-use Rattle.zk_path.specs.Paths.{text_of}
+use Rattle.zk_path.specs.Paths.{text_of, IsTextOf}
 use Rattle.zk_messages.specs.Refuses.{RefusesNode, IsRootText}
 use Rattle.zk_messages.proofs.Allowed.{not_root}
 use Rattle.tree_state.specs.Nodes.{Path}
-use Rattle.tree_state.specs.Commands.{IsTextOf}
 
 under : (text : List ℕ) (p : Path) → IsTextOf text p → (IsRootText text → ⊥) → (n : List ℕ) × (q : Path) × (p ≡ n ∷ q)
 unfolding text_of

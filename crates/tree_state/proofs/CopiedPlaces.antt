@@ -7,9 +7,9 @@ use Rattle.std.specs.List.Sorted.{IsStrictlySortedBy}
 use Rattle.std.specs.Map.{keys_of}
 use Rattle.std.specs.String.{string_cmp_total}
 use Rattle.std.proofs.lemmas.List.Elements.{All-nil, All-cons, All-head, All-tail}
+use Rattle.zk_path.specs.Paths.{IsTextOf}
 use Rattle.tree_state.specs.declared.node.Node as code
 use Rattle.tree_state.specs.declared.places.Places.{Places}
-use Rattle.tree_state.specs.Commands.{IsTextOf}
 use Rattle.tree_state.specs.Nodes.{Node, Place, child_names}
 use Rattle.tree_state.specs.Places.{path_of, Entry, node_of, place_of, HasText, HasNames, Holds}
 use Rattle.tree_state.specs.Shuffles.{Shuffles}

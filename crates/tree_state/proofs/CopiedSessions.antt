@@ -6,9 +6,9 @@ use Rattle.std.specs.List.{AllZip}
 use Rattle.std.specs.List.Sorted.{IsStrictlySortedBy}
 use Rattle.std.specs.Map.{keys_of, lookup}
 use Rattle.std.proofs.lemmas.List.Elements.{All-nil, All-cons, All-head, All-tail}
+use Rattle.zk_path.specs.Paths.{IsTextOf}
 use Rattle.tree_state.specs.declared.session.Session as code
 use Rattle.tree_state.specs.declared.session.Sessions.{Sessions}
-use Rattle.tree_state.specs.Commands.{IsTextOf}
 use Rattle.tree_state.specs.State.{Session}
 use Rattle.tree_state.specs.Sessions.{Keeps, Owning, OwnsPaths, OwnTexts, IsCopy, session_at_key}
 use Rattle.tree_state.proofs.CopiedMaps.{AreAlike, IsCopiedUpTo, entry_copied, same_texts}

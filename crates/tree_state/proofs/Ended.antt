@@ -5,6 +5,7 @@ use Rattle.std.specs.Int.Signed.{clash_ℤ}
 use Rattle.std.specs.List.{cons_option, AllZip}
 use Rattle.std.proofs.lemmas.Bool.{cases_Bool}
 use Rattle.std.proofs.lemmas.List.Elements.{All-nil, All-cons, All-head, All-tail, All-filter}
+use Rattle.zk_path.specs.Paths.{IsTextOf}
 use Rattle.tree_state.specs.declared.held.Held.{Held}
 use Rattle.tree_state.specs.declared.message.Output.{Output}
 use Rattle.tree_state.specs.declared.node.Moment.{Moment}
@@ -12,7 +13,6 @@ use Rattle.tree_state.specs.declared.places.Places.{Places}
 use Rattle.tree_state.specs.declared.watches.Watches.{Watches}
 use Rattle.tree_state.specs.Nodes.{Path, Node, Place, above, same_path, find, is_there, change, is_elsewhere, remove, has_children, path_if_owned, ephemerals}
 use Rattle.tree_state.specs.State.{State, Session, Watch, left_of_others, session_at, is_numbered, is_other_session, without_session, next_zxid}
-use Rattle.tree_state.specs.Commands.{IsTextOf}
 use Rattle.tree_state.specs.Changes.{Naming, with_deletion, left_by_deletion, deleted, all_deleted, no_effects}
 use Rattle.tree_state.specs.Step.{expires, step, ended, expired, watches_gone, connection_at}
 use Rattle.tree_state.specs.Places.{IsApart, Holds}

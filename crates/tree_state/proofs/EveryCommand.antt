@@ -6,7 +6,7 @@ use Rattle.std.specs.List.{AllZip}
 use Rattle.std.proofs.lemmas.Bool.{false≢true}
 use Rattle.std.proofs.lemmas.List.Elements.{All-head, All-tail}
 use Rattle.std.proofs.lemmas.Option.{none-some}
-use Rattle.zk_path.specs.Paths.{text_of, IsPathText, IsStemText}
+use Rattle.zk_path.specs.Paths.{text_of, IsPathText, IsStemText, IsTextOf, IsNamed}
 use Rattle.zk_path.proofs.Stable.{dec_of}
 use Rattle.zk_records.specs.declared.create.CreateRequest.{CreateRequest}
 use Rattle.zk_messages.specs.Refuses.{Refuses, RefusesCreate, RefusesOp, IsRootText, IsSequential, ArePaths}
@@ -16,7 +16,7 @@ use Rattle.zk_messages.specs.declared.request.Request.{Request}
 use Rattle.zk_messages.specs.declared.request.Request.TheVariants as requests
 use Rattle.zk_messages.proofs.Allowed.{path_allowed, node_allowed, create_named, acl_path, watches_allowed, ops_allowed, dec_sequential, stem_for, path_for, not_first}
 use Rattle.tree_state.specs.Nodes.{Path}
-use Rattle.tree_state.specs.Commands.{Change, create, delete, set_content, check, Command, single, multi, set_acl, stat_at, get_content, get_acl, get_children, sync, ping, set_watches, close, IsTextOf, AreTextsOf, IsEphemeral, IsNamed, IsCreate, IsChange, Asks}
+use Rattle.tree_state.specs.Commands.{Change, create, delete, set_content, check, Command, single, multi, set_acl, stat_at, get_content, get_acl, get_children, sync, ping, set_watches, close, AreTextsOf, IsEphemeral, IsCreate, IsChange, Asks}
 
 -- ---- texts
 
@@ -102,7 +102,8 @@ created r h =
 
 a_change : (op : Op) → RefusesOp op None → (change : Change) × IsChange op change
 unfolding IsChange
-a_change (ops.Create r) h = let k = created r h in (create k.path k.name r.content k.sequential k.ephemeral, k.asked)
+a_change (ops.Create r) h = let k = created r h in (create k.path k.name r.content k.sequential k.ephemeral false, (k.asked, refl))
+a_change (ops.Create2 r) h = let k = created r h in (create k.path k.name r.content k.sequential k.ephemeral true, (k.asked, refl))
 a_change (ops.Delete r) h = let k = a_path r.path (node_allowed r.path h) in (delete k.0 r.version, (k.1, refl))
 a_change (ops.SetContent r) h = let k = a_path r.path (node_allowed r.path h) in (set_content k.0 r.content r.version, (k.1, refl, refl))
 a_change (ops.Check r) h = let k = a_path r.path (path_allowed r.path h) in (check k.0 r.version, (k.1, refl))
@@ -120,7 +121,8 @@ pub some_asked : (r : Request) → Refuses r None → (command : Command) × Ask
 unfolding Refuses Asks
 some_asked (requests.Unknown kind body) h = absurd (none-some _ h)
 some_asked (requests.Auth body) h = absurd (none-some _ h)
-some_asked (requests.Create r) h = let k = created r h in (single (create k.path k.name r.content k.sequential k.ephemeral), k.asked)
+some_asked (requests.Create r) h = let k = created r h in (single (create k.path k.name r.content k.sequential k.ephemeral false), (k.asked, refl))
+some_asked (requests.Create2 r) h = let k = created r h in (single (create k.path k.name r.content k.sequential k.ephemeral true), (k.asked, refl))
 some_asked (requests.Delete r) h = let k = a_path r.path (node_allowed r.path h) in (single (delete k.0 r.version), (k.1, refl))
 some_asked (requests.Exists r) h = let k = a_path r.path (path_allowed r.path h) in (stat_at k.0 r.watch, (k.1, refl))
 some_asked (requests.GetContent r) h = let k = a_path r.path (node_allowed r.path h) in (get_content k.0 r.watch, (k.1, refl))

@@ -8,11 +8,10 @@ use Rattle.std.proofs.lemmas.List.{append_assoc}
 use Rattle.std.proofs.lemmas.List.Elements.{All-nil, All-cons, All-head, All-tail}
 use Rattle.std.proofs.lemmas.Map.Text.{is_eq-slice_cmp}
 use Rattle.std.proofs.lemmas.Slice.Eq.{bytes_eq-Decides}
-use Rattle.zk_path.specs.Paths.{text_of}
+use Rattle.zk_path.specs.Paths.{text_of, IsTextOf}
 use Rattle.tree_state.specs.declared.message.Output.{Output}
 use Rattle.tree_state.specs.Nodes.{Path, Place, above, same_path, is_there, children, has_children, ephemerals}
 use Rattle.tree_state.specs.State.{State, Aspect, on_data, on_children, Watch, same_aspect, is_on, is_off, connection_if_on, told, left}
-use Rattle.tree_state.specs.Commands.{IsTextOf}
 use Rattle.tree_state.specs.Changes.{is_not_in, events_to, end_events, deletion_events, left_by_deletion, deleted, all_deleted, no_effects}
 use Rattle.tree_state.specs.Places.{IsApart}
 use Rattle.tree_state.specs.Sessions.{OwnTexts}

@@ -4,9 +4,9 @@ use Rattle.std.specs.Prelude.{All}
 use Rattle.std.specs.Map.{lookup}
 use Rattle.std.proofs.lemmas.List.{length-map}
 use Rattle.std.proofs.lemmas.List.Elements.{All-head, All-tail}
+use Rattle.zk_path.specs.Paths.{IsTextOf}
 use Rattle.tree_state.specs.declared.node.Node as code
 use Rattle.tree_state.specs.declared.places.Places.{Places}
-use Rattle.tree_state.specs.Commands.{IsTextOf}
 use Rattle.tree_state.specs.Nodes.{Path, Place, same_path, children, child_names}
 use Rattle.tree_state.specs.Places.{path_of, Entry, path_at, node_of, HasText, HasNames, IsSteady, Holds, IsSmall, IsNodeAt, IsFound}
 use Rattle.tree_state.proofs.SamePaths.{same_path-true}

@@ -1,12 +1,12 @@
 -- The name of a new node is the one of the naming.
 use Rattle.std.proofs.Common.{◌≡◌, ℕ, Bool, true, false, List, [], ◌∷◌, ◌++◌, Option, Some, None, IsTrue, refl, sym, ap, subst, ◌∙◌}
 use Rattle.std.proofs.lemmas.List.Elements.{All-tail}
-use Rattle.zk_path.specs.Paths.{IsComponent, IsPath, IsStem, joined, text_of}
+use Rattle.zk_path.specs.Paths.{IsComponent, IsPath, IsStem, joined, text_of, IsTextOf, IsNamed}
 use Rattle.zk_path.specs.Numbers.{IsNumberingOf}
 use Rattle.zk_records.specs.declared.create.CreateRequest.{CreateRequest}
 use Rattle.zk_messages.specs.Refuses.{IsSequential}
 use Rattle.tree_state.specs.Nodes.{Path, Node}
-use Rattle.tree_state.specs.Commands.{IsTextOf, IsNamed, IsCreate}
+use Rattle.tree_state.specs.Commands.{IsCreate}
 use Rattle.tree_state.specs.Changes.{Naming, name_for}
 use Rattle.tree_state.specs.Trees.{IsNaming, IsNameOf, IsNamedTo, name_at}
 

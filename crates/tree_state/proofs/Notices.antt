@@ -3,6 +3,7 @@ use Rattle.std.proofs.Common.{◌≡◌, ℕ, ℤ, List, [], ◌∷◌, ◌++◌
 use Rattle.std.specs.List.{AllZip}
 use Rattle.std.specs.Result.{IsErrAnd}
 use Rattle.jute_core.specs.declared.held.Memory.{Memory}
+use Rattle.zk_path.specs.Paths.{IsTextOf}
 use Rattle.tree_state.specs.declared.events.EventKind.{EventKind}
 use Rattle.tree_state.specs.declared.message.Output.{Output}
 use Rattle.tree_state.specs.declared.node.Node as code
@@ -13,7 +14,7 @@ use Rattle.tree_state.specs.Nodes.{Path, Place, find}
 use Rattle.tree_state.specs.State.{Watch, watching}
 use Rattle.tree_state.specs.Places.{IsFound}
 use Rattle.tree_state.specs.Changes.{event_to}
-use Rattle.tree_state.specs.Commands.{IsTextOf, AreTextsOf}
+use Rattle.tree_state.specs.Commands.{AreTextsOf}
 use Rattle.tree_state.specs.Step.{Notice, tells, watches, Noticed, noticed, all_noticed}
 use Rattle.tree_state.specs.Watches.{Watching, number_of}
 use Rattle.tree_state.specs.Noticing.{aspect_of, notice_of, watch_of, notice_with, plain_node, Forgets, AreNoticed, CanForget, Notices, one_noticed, list_noticed}

@@ -2,8 +2,8 @@
 use Rattle.std.proofs.Common.{◌≡◌, ℕ, ◌≤◌, ◌+◌, length, false, List, Option, Some, None, string_bytes, map, option_map, refl, sym, ap, subst, ◌∙◌}
 use Rattle.std.specs.Prelude.{All}
 use Rattle.std.specs.Map.{lookup, set_value}
+use Rattle.zk_path.specs.Paths.{IsTextOf}
 use Rattle.tree_state.specs.declared.node.Node as code
-use Rattle.tree_state.specs.Commands.{IsTextOf}
 use Rattle.tree_state.specs.Nodes.{Path, Node, Place, same_path, find, change, children, child_names}
 use Rattle.tree_state.specs.Places.{Entry, path_at, node_of, place_of, HasText, HasNames, IsApart, IsSteady}
 use Rattle.tree_state.proofs.Reorder.{Shuffles, Shuffles-sym, apart-Shuffles, find-Shuffles, change-Shuffles}

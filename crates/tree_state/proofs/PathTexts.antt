@@ -3,12 +3,11 @@ use Rattle.std.proofs.Common.{◌≡◌, ℕ, Bool, false, cond, List, [], ◌�
 use Rattle.std.proofs.lemmas.Bool.{cases_Bool}
 use Rattle.std.proofs.lemmas.List.Elements.{All-nil, All-tail}
 use Rattle.std.proofs.lemmas.Slice.Eq.{bytes_eq-Decides}
-use Rattle.zk_path.specs.Paths.{IsComponent, IsPath, joined, text_of}
+use Rattle.zk_path.specs.Paths.{IsComponent, IsPath, joined, text_of, IsTextOf}
 use Rattle.zk_path.specs.View.{components}
 use Rattle.zk_path.proofs.Components.{components-joined}
 use Rattle.zk_path.proofs.Judged.{one_text, plain}
 use Rattle.tree_state.specs.Nodes.{Path}
-use Rattle.tree_state.specs.Commands.{IsTextOf}
 use Rattle.tree_state.specs.Places.{path_of}
 
 not_root : (n : List ℕ) (p : Path) → IsPath (n ∷ p) → bytes_eq (text_of (n ∷ p)) (codes "/") ≡ false

@@ -4,6 +4,7 @@ use Rattle.std.specs.Prelude.{IsErrAnd, map, pos, min, ◌+◌}
 use Rattle.std.specs.Option.{option_map}
 use Rattle.std.specs.String.{string_bytes}
 use Rattle.std.proofs.lemmas.List.{length-map}
+use Rattle.zk_path.specs.Paths.{IsTextOf}
 use Rattle.zk_messages.specs.Refuses.{open_acl}
 use Rattle.zk_records.specs.declared.acl.Acl.{Acl}
 use Rattle.zk_records.specs.declared.stat.Stat.{Stat}
@@ -16,7 +17,7 @@ use Rattle.tree_state.specs.declared.node.Node as code
 use Rattle.tree_state.specs.declared.watches.Watches.{Watches}
 use Rattle.tree_state.specs.Nodes.{Path, Place, Node, find, placed, in_order, text_le, children, child_names, size_of, stat_of}
 use Rattle.tree_state.specs.State.{State, Aspect, on_data, on_children, watching, watching_if}
-use Rattle.tree_state.specs.Commands.{IsTextOf, stat_at, get_content, get_acl, get_children}
+use Rattle.tree_state.specs.Commands.{stat_at, get_content, get_acl, get_children}
 use Rattle.tree_state.specs.Changes.{Naming, no_node}
 use Rattle.tree_state.specs.Step.{Answer, answer, with_error, told_only, with_watch, names_with}
 use Rattle.tree_state.specs.Places.{node_of, kept_stat, IsSmall, IsNodeAt, IsFound, Holds}

@@ -3,11 +3,10 @@ use Rattle.std.proofs.Common.{◌≡◌, ℕ, ℤ, ◌<◌, ◌+◌, Bool, true,
 use Rattle.std.specs.Prelude.{All, ◌==◌}
 use Rattle.std.specs.Map.{set_value, remove_entry}
 use Rattle.std.proofs.lemmas.Bool.{cases_Bool}
-use Rattle.zk_path.specs.Paths.{text_of}
+use Rattle.zk_path.specs.Paths.{text_of, IsTextOf}
 use Rattle.tree_state.specs.declared.node.Node as code
 use Rattle.tree_state.specs.declared.places.Places.{Places}
 use Rattle.tree_state.specs.Changes.{with_deletion}
-use Rattle.tree_state.specs.Commands.{IsTextOf}
 use Rattle.tree_state.specs.Counts.{without_child, IsCountedOut}
 use Rattle.tree_state.specs.Nodes.{Path, Node, Place, same_path, find, is_there, changed_at, change, is_elsewhere, remove, children, child_names, has_children, placed, greatest_int}
 use Rattle.tree_state.specs.Places.{Entry, node_of, place_of, HasText, HasNames, IsApart, IsSteady, Holds}

@@ -3,11 +3,10 @@ use Rattle.std.proofs.Common.{◌≡◌, ◌≤◌, ℕ, ℤ, zero-le, length, t
 use Rattle.std.specs.Prelude.{All, pos, ◌≤ℤ◌}
 use Rattle.std.specs.BTreeMap.{insert_entry}
 use Rattle.std.proofs.lemmas.List.Elements.{All-nil, All-cons}
-use Rattle.zk_path.specs.Paths.{IsComponent, text_of}
+use Rattle.zk_path.specs.Paths.{IsComponent, text_of, IsTextOf}
 use Rattle.tree_state.specs.declared.held.Held.{Held}
 use Rattle.tree_state.specs.declared.node.Node as code
 use Rattle.tree_state.specs.declared.places.Places.{Places}
-use Rattle.tree_state.specs.Commands.{IsTextOf}
 use Rattle.tree_state.specs.Nodes.{Path, Node, Place, same_path, find, is_there, name_under, name_of_child, children, has_children, child_names, in_order, ephemerals, size_of, greatest_int}
 use Rattle.tree_state.specs.State.{start_at, first_numbers}
 use Rattle.tree_state.specs.Shuffles.{Shuffles}

@@ -2,6 +2,7 @@
 use Rattle.std.proofs.Common.{◌≡◌, ℕ, ℤ, Bool, true, false, List, [], ◌∷◌, ◌++◌, Option, Some, None, Result, Ok, Err, refl, sym, ap, subst, ◌∙◌}
 use Rattle.std.specs.Prelude.{IfOk, IsErrAnd}
 use Rattle.jute_core.specs.declared.held.Bytes.{Bytes}
+use Rattle.zk_path.specs.Paths.{IsTextOf}
 use Rattle.zk_records.specs.declared.create.CreateRequest.{CreateRequest}
 use Rattle.zk_records.specs.declared.set_watches.SetWatches.{SetWatches}
 use Rattle.zk_messages.specs.declared.request.Op.{Op}
@@ -20,10 +21,11 @@ use Rattle.tree_state.specs.declared.held.Held.{Held}
 use Rattle.tree_state.specs.declared.node.Moment.{Moment}
 use Rattle.tree_state.specs.Nodes.{Path, ephemerals}
 use Rattle.tree_state.specs.State.{State, Session, Watch, left_of_others, session_at, without_session}
-use Rattle.tree_state.specs.Commands.{Command, Asks, IsTextOf, AreTextsOf, single, set_acl, stat_at, get_content, get_acl, get_children, sync, ping, set_watches, close, delete, set_content}
+use Rattle.tree_state.specs.Commands.{Command, Asks, AreTextsOf, single, set_acl, stat_at, get_content, get_acl, get_children, sync, ping, set_watches, close, delete, set_content}
 use Rattle.tree_state.specs.Changes.{Naming, perform, deleted, no_effects, all_deleted}
 use Rattle.tree_state.specs.Step.{Answer, answer, answer_single, told_only, closed, ended, watches_gone, connection_at}
 use Rattle.tree_state.specs.Trees.{Means, Answers, HasRoom, Tells, IsOther}
+use Rattle.tree_state.proofs.Answering.{creation}
 use Rattle.tree_state.proofs.Alone.{Sent, untold, told_answers}
 use Rattle.tree_state.proofs.BelowRoot.{below_root}
 
@@ -237,9 +239,10 @@ serve_close naming at c s x h before sent command live on a m events room =
 
 -- ---- requests that no row is asked for
 
-pub not_create : (r : Request) (x : CreateRequest) → r ≡ requests.Create x → IsOther r → ⊥
+pub not_create : (r : Request) (w : Bool) (x : CreateRequest) → r ≡ creation w x → IsOther r → ⊥
 unfolding IsOther
-not_create r x e h = subst IsOther e h
+not_create r false x e h = subst IsOther e h
+not_create r true x e h = subst IsOther e h
 
 pub not_multi : (r : Request) (x : List Op) → r ≡ requests.Multi x → IsOther r → ⊥
 unfolding IsOther

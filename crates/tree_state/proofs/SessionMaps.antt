@@ -9,7 +9,7 @@ use Rattle.std.specs.Option.{option_map}
 use Rattle.std.specs.String.{string_bytes}
 use Rattle.std.specs.Prelude.{String}
 use Rattle.std.specs.Global.{Global}
-use Rattle.zk_path.specs.Paths.{text_of}
+use Rattle.zk_path.specs.Paths.{text_of, IsTextOf}
 use Rattle.std.proofs.lemmas.Slice.Eq.{bytes_eq-Decides}
 use Rattle.std.proofs.lemmas.Bool.{both_ways}
 use Rattle.zk_path.proofs.Judged.{one_text}
@@ -18,7 +18,6 @@ use Rattle.std.proofs.lemmas.List.Elements.{All-cons, All-head, All-nil, All-tai
 use Rattle.std.proofs.lemmas.Map.Keys.{sorted_head, sorted_tail}
 use Rattle.tree_state.specs.declared.session.Session as code
 use Rattle.tree_state.specs.Nodes.{Path, same_path}
-use Rattle.tree_state.specs.Commands.{IsTextOf}
 use Rattle.tree_state.specs.State.{Session, is_numbered, session_at, changed_session, change_session, is_other_session, without_session}
 use Rattle.tree_state.specs.Sessions.{Owning, OwnsPaths, OwnTexts, AreBelow, is_other_text, session_at_key}
 use Rattle.tree_state.proofs.SamePaths.{same_path-refl, same_path-true}

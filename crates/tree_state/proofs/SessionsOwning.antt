@@ -3,9 +3,9 @@ use Rattle.std.proofs.Common.{◌≡◌, ℕ, ℤ, Bool, true, false, cond, List
 use Rattle.std.specs.BTreeMap.{IsOrdered, WritesThrough, get}
 use Rattle.std.specs.Cmp.{int_eq_equiv}
 use Rattle.std.specs.Vec.{vec_len, vec_capacity}
+use Rattle.zk_path.specs.Paths.{IsTextOf}
 use Rattle.tree_state.specs.declared.session.Session as code
 use Rattle.tree_state.specs.declared.session.Sessions.{Sessions}
-use Rattle.tree_state.specs.Commands.{IsTextOf}
 use Rattle.tree_state.specs.Nodes.{Path, same_path}
 use Rattle.tree_state.specs.State.{Session, session_at, is_numbered, changed_session, change_session}
 use Rattle.tree_state.specs.Sessions.{Keeps, is_other_text, HasRoomFor, with_owned, without_owned, Owning, OwnTexts, session_at_key}

@@ -7,9 +7,9 @@ use Rattle.std.specs.BTreeMap.{insert_entry}
 use Rattle.std.specs.Ordering.{match_ordering}
 use Rattle.std.proofs.lemmas.Map.Text.{is_eq-slice_cmp}
 use Rattle.std.proofs.lemmas.Slice.Eq.{bytes_eq-Decides}
+use Rattle.zk_path.specs.Paths.{IsTextOf}
 use Rattle.tree_state.specs.declared.node.Node as code
 use Rattle.tree_state.specs.declared.places.Places.{Places}
-use Rattle.tree_state.specs.Commands.{IsTextOf}
 use Rattle.tree_state.specs.Nodes.{Path, Place, is_there}
 use Rattle.tree_state.specs.Places.{Entry, node_of, place_of, HasText, HasNames, Holds}
 use Rattle.tree_state.proofs.Reorder.{Shuffles}

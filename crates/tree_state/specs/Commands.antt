@@ -1,7 +1,7 @@
 -- What a request asks of the machine, with paths in place of their texts.
 use Rattle.std.specs.Prelude.{◌≡◌, ◌⊎◌, ℕ, ℤ, pos, List, [], ◌∷◌, Bool, true, false, Option, Some, None, IsTrue, ◌↔◌}
 use Rattle.std.specs.List.{AllZip}
-use Rattle.zk_path.specs.Paths.{IsPath, IsStem, joined, text_of}
+use Rattle.zk_path.specs.Paths.{IsTextOf, IsNamed}
 use Rattle.zk_records.specs.declared.create.CreateRequest.{CreateRequest}
 use Rattle.zk_messages.specs.Refuses.{Refuses, IsSequential}
 use Rattle.zk_messages.specs.declared.request.Op.{Op}
@@ -12,8 +12,9 @@ use Rattle.tree_state.specs.Nodes.{Path}
 
 -- a change of one node
 pub data Change : Type 0 where
-  -- under a parent; the name, or the stem's last component, the content, whether it is sequential, and ephemeral
-  create : Path → List ℕ → Option (List ℕ) → Bool → Bool → Change
+  -- under a parent; the name, or the stem's last component, the content, whether it is sequential, and ephemeral, and whether
+  -- it is answered with a Stat
+  create : Path → List ℕ → Option (List ℕ) → Bool → Bool → Bool → Change
   -- with the version that is asked for
   delete : Path → ℤ → Change
   set_content : Path → Option (List ℕ) → ℤ → Change
@@ -37,11 +38,6 @@ pub data Command : Type 0 where
   set_watches : ℤ → List Path → List Path → List Path → Command
   close : Command
 
--- the text is this legal path's
-pub record IsTextOf (text : List ℕ) (p : Path) : Type 0 where
-  pub legal : IsPath p
-  pub spelled : text ≡ text_of p
-
 -- a null list has no paths
 unfoldable pub AreTextsOf : Option (List (List ℕ)) → List Path → Type 0
 AreTextsOf None ps = ps ≡ []
@@ -51,11 +47,6 @@ AreTextsOf (Some texts) ps = AllZip IsTextOf texts ps
 abbrev pub IsEphemeral : ℤ → Type 0
 IsEphemeral flags = (flags ≡ pos 1) ⊎ (flags ≡ pos 3)
 
--- where a number will follow, the text is that of a stem, and else of a path
-unfoldable pub IsNamed : Bool → List ℕ → Path → Type 0
-IsNamed true text p = IsStem p × (text ≡ joined p)
-IsNamed false text p = IsTextOf text p
-
 pub record IsCreate (r : CreateRequest) (p : Path) (n : List ℕ) (content : Option (List ℕ)) (sequential ephemeral : Bool) : Type 0 where
   pub named : IsNamed sequential r.path (n ∷ p)
   pub same_content : r.content ≡ content
@@ -63,7 +54,8 @@ pub record IsCreate (r : CreateRequest) (p : Path) (n : List ℕ) (content : Opt
   pub kept : IsTrue ephemeral ↔ IsEphemeral r.flags
 
 unfoldable pub IsChange : Op → Change → Type 0
-IsChange (ops.Create r) (create p n content sequential ephemeral) = IsCreate r p n content sequential ephemeral
+IsChange (ops.Create r) (create p n content sequential ephemeral stat) = IsCreate r p n content sequential ephemeral × (stat ≡ false)
+IsChange (ops.Create2 r) (create p n content sequential ephemeral stat) = IsCreate r p n content sequential ephemeral × (stat ≡ true)
 IsChange (ops.Delete r) (delete p version) = IsTextOf r.path p × (r.version ≡ version)
 IsChange (ops.SetContent r) (set_content p content version) = IsTextOf r.path p × (r.content ≡ content) × (r.version ≡ version)
 IsChange (ops.Check r) (check p version) = IsTextOf r.path p × (r.version ≡ version)
@@ -71,7 +63,8 @@ IsChange op change = ⊥
 
 -- what a request asks that is not refused
 unfoldable pub Asks : Request → Command → Type 0
-Asks (requests.Create r) (single (create p n content sequential ephemeral)) = IsCreate r p n content sequential ephemeral
+Asks (requests.Create r) (single (create p n content sequential ephemeral stat)) = IsCreate r p n content sequential ephemeral × (stat ≡ false)
+Asks (requests.Create2 r) (single (create p n content sequential ephemeral stat)) = IsCreate r p n content sequential ephemeral × (stat ≡ true)
 Asks (requests.Delete r) (single (delete p version)) = IsTextOf r.path p × (r.version ≡ version)
 Asks (requests.Exists r) (stat_at p watch) = IsTextOf r.path p × (r.watch ≡ watch)
 Asks (requests.GetContent r) (get_content p watch) = IsTextOf r.path p × (r.watch ≡ watch)

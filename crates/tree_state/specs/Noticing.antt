@@ -1,6 +1,7 @@
 -- What setWatches does with one path after another, and how the watches that it added are taken out again.
 use Rattle.std.specs.Prelude.{◌≡◌, ◌++◌, ℕ, ℤ, List, [], ◌∷◌, Option, Some, None, Result, Ok, Err}
 use Rattle.jute_core.specs.declared.held.Memory.{Memory}
+use Rattle.zk_path.specs.Paths.{IsTextOf}
 use Rattle.tree_state.specs.declared.events.EventKind.{EventKind}
 use Rattle.tree_state.specs.declared.message.Output.{Output}
 use Rattle.tree_state.specs.declared.node.Node as code
@@ -8,7 +9,6 @@ use Rattle.tree_state.specs.declared.noticing.Added.{Added}
 use Rattle.tree_state.specs.declared.noticing.Interest.{Interest}
 use Rattle.tree_state.specs.declared.noticing.Interest.TheVariants as interests
 use Rattle.tree_state.specs.declared.watches.Watches.{Watches}
-use Rattle.tree_state.specs.Commands.{IsTextOf}
 use Rattle.tree_state.specs.Nodes.{Path, Node, Place, find}
 use Rattle.tree_state.specs.Places.{node_of}
 use Rattle.tree_state.specs.State.{Aspect, on_data, on_children, Watch}

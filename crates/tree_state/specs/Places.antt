@@ -3,12 +3,11 @@ use Rattle.std.specs.Prelude.{◌≡◌, ℕ, pos, ◌+◌, ◌≤◌, List, [],
 use Rattle.std.specs.Global.{Global}
 use Rattle.std.specs.Str.{bytes_eq}
 use Rattle.std.specs.String.{string_bytes}
-use Rattle.zk_path.specs.Paths.{text_of}
+use Rattle.zk_path.specs.Paths.{text_of, IsTextOf}
 use Rattle.zk_path.specs.View.{components}
 use Rattle.zk_records.specs.declared.stat.Stat.{Stat}
 use Rattle.tree_state.specs.declared.node.Node as code
 use Rattle.tree_state.specs.declared.places.Places.{Places}
-use Rattle.tree_state.specs.Commands.{IsTextOf}
 use Rattle.tree_state.specs.Nodes.{Path, Node, Place, find, is_there, children, child_names, size_of, greatest_int}
 use Rattle.tree_state.specs.State.{first_numbers}
 use Rattle.tree_state.specs.Shuffles.{Shuffles}

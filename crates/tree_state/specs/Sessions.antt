@@ -6,9 +6,9 @@ use Rattle.std.specs.List.{AllZip}
 use Rattle.std.specs.Ordering.{int_cmp, int_eq, nat_cmp}
 use Rattle.std.specs.Str.{bytes_eq}
 use Rattle.std.specs.String.{string_bytes}
+use Rattle.zk_path.specs.Paths.{IsTextOf}
 use Rattle.tree_state.specs.declared.session.Session as code
 use Rattle.tree_state.specs.declared.session.Sessions.{Sessions}
-use Rattle.tree_state.specs.Commands.{IsTextOf}
 use Rattle.tree_state.specs.Nodes.{Path, same_path}
 use Rattle.tree_state.specs.State.{Session, session_of, session_at}
 

@@ -2,7 +2,7 @@
 use Rattle.std.specs.Prelude.{◌≡◌, ◌≤ℤ◌, ◌<ℤ◌, ◌<◌, ◌+◌, ℕ, suc, ℤ, pos, List, [], ◌∷◌, ◌++◌, replicate, Bool, true, false, Option, Some, None, Result, Ok, Err, All, IfErr, Vec, vec_len, vec_capacity}
 use Rattle.std.specs.Global.{Global}
 use Rattle.jute_core.specs.declared.held.Memory.{Memory}
-use Rattle.zk_path.specs.Paths.{IsStem, joined, text_of}
+use Rattle.zk_path.specs.Paths.{IsStem, joined, text_of, IsTextOf}
 use Rattle.zk_messages.specs.declared.reply.OpResult.{OpResult}
 use Rattle.zk_messages.specs.declared.reply.Outcome.{Outcome}
 use Rattle.zk_messages.specs.declared.request.Request.{Request}
@@ -16,7 +16,7 @@ use Rattle.tree_state.specs.declared.message.Output.{Output}
 use Rattle.tree_state.specs.declared.node.Moment.{Moment}
 use Rattle.tree_state.specs.Nodes.{Path, Node, find, has_children, ephemerals}
 use Rattle.tree_state.specs.State.{State, Session, session_of}
-use Rattle.tree_state.specs.Commands.{IsTextOf, create}
+use Rattle.tree_state.specs.Commands.{create}
 use Rattle.tree_state.specs.Changes.{Naming, Trial, failed, done, Effect, Effects, has_owner, is_at_last, perform, runtime_inconsistency}
 use Rattle.tree_state.specs.Step.{Answer, Act, step}
 use Rattle.tree_state.specs.Places.{Holds}
@@ -99,8 +99,8 @@ pub record IsParent (s : State) (p : Path) (up : Node) : Type 0 where
 -- the checks of create before a name is given: with how many creations it goes on, or the code of an error
 unfoldable pub MayCreate : State → Path → Result ℕ ℤ → Type 0
 MayCreate s p (Ok creations) = (up : Node) × IsParent s p up × (creations ≡ up.numbers.creations)
-MayCreate s p (Err code) = (naming : Naming) (at : Moment) (n : List ℕ) (content : Option (List ℕ)) (sequential ephemeral : Bool)
-    → perform naming at s (create p n content sequential ephemeral) ≡ failed code
+MayCreate s p (Err code) = (naming : Naming) (at : Moment) (n : List ℕ) (content : Option (List ℕ)) (sequential ephemeral stat : Bool)
+    → perform naming at s (create p n content sequential ephemeral stat) ≡ failed code
 
 -- a change is of a session that was given
 pub record IsMoment (s : State) (at : Moment) : Type 0 where
@@ -138,9 +138,10 @@ pub record IsNaming (named : List ℕ → ℕ → List ℕ → Type 0) (naming :
 
 -- ---- rows
 
--- a request other than create and multi
+-- a request other than create, create2 and multi
 unfoldable pub IsOther : Request → Type 0
 IsOther (requests.Create r) = ⊥
+IsOther (requests.Create2 r) = ⊥
 IsOther (requests.Multi list) = ⊥
 IsOther r = Unit {0}
 

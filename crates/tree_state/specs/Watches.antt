@@ -6,11 +6,11 @@ use Rattle.std.specs.Global.{Global}
 use Rattle.std.specs.List.{list_any}
 use Rattle.std.specs.Map.{lookup}
 use Rattle.std.specs.Ordering.{nat_cmp}
+use Rattle.zk_path.specs.Paths.{IsTextOf}
 use Rattle.tree_state.specs.declared.events.EventKind.{EventKind}
 use Rattle.tree_state.specs.declared.events.EventKind.TheVariants as kinds
 use Rattle.tree_state.specs.declared.watchers.Watchers.{Watchers}
 use Rattle.tree_state.specs.declared.watches.Watches.{Watches}
-use Rattle.tree_state.specs.Commands.{IsTextOf}
 use Rattle.tree_state.specs.Counts.{is_at_text}
 use Rattle.tree_state.specs.State.{Aspect, on_data, on_children, Watch, told, is_same_watch}
 

@@ -2,8 +2,8 @@
 
 ghost use Rattle.std.specs.Prelude.{◌≡◌, ◌++◌, pos, filter, not, IfOk, OnOk};
 ghost use Rattle.std.specs.Option.{option_copied};
+ghost use Rattle.zk_path.specs.Paths.{IsTextOf};
 ghost use Rattle.tree_state.specs.Changes.{event_to, events_to, is_not_in};
-ghost use Rattle.tree_state.specs.Commands.{IsTextOf};
 ghost use Rattle.tree_state.specs.Nodes.{Path};
 ghost use Rattle.tree_state.specs.Trees.{HasRoom};
 ghost use Rattle.tree_state.specs.Watches.{members, number_of};

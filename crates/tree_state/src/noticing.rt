@@ -3,9 +3,10 @@
 ghost use Rattle.std.specs.Prelude.{◌≡◌, ℤ, not, List, OnOk, OnErr, IfOk};
 ghost use Rattle.std.specs.List.{list_any};
 ghost use Rattle.std.specs.Option.{option_copied};
+ghost use Rattle.zk_path.specs.Paths.{IsTextOf};
 ghost use Rattle.tree_state.specs.declared.message.Output.{Output as PlainOutput};
 ghost use Rattle.tree_state.specs.declared.node.Moment.{Moment as At};
-ghost use Rattle.tree_state.specs.Commands.{IsTextOf, AreTextsOf, set_watches};
+ghost use Rattle.tree_state.specs.Commands.{AreTextsOf, set_watches};
 ghost use Rattle.tree_state.specs.Nodes.{Path, Place};
 ghost use Rattle.tree_state.specs.State.{State, Watch, watching, is_same_watch};
 ghost use Rattle.tree_state.specs.Changes.{Naming};

@@ -2,7 +2,7 @@
 
 ghost use Rattle.std.specs.Prelude.{◌≡◌, ℕ, List, ◌∷◌, ◌<◌, ◌≤◌, length, true, false, Some, IfOk, OnOk, OnErr};
 ghost use Rattle.std.specs.Option.{option_copied};
-ghost use Rattle.tree_state.specs.Commands.{IsTextOf};
+ghost use Rattle.zk_path.specs.Paths.{IsTextOf};
 ghost use Rattle.tree_state.specs.Nodes.{Path, Node as PlainNode, Place, find, is_there, add, remove, change, has_children, size_of, greatest_int};
 ghost use Rattle.tree_state.specs.State.{start_at};
 ghost use Rattle.tree_state.specs.Changes.{fresh_numbers, with_creation, with_deletion, with_content, with_acl};

@@ -1,8 +1,9 @@
 //! What is read of a node, with the watch that is asked for.
 
 ghost use Rattle.std.specs.Prelude.{◌≡◌, ℕ, ◌∷◌, [], IfOk, OnOk, OnErr};
+ghost use Rattle.zk_path.specs.Paths.{IsTextOf};
 ghost use Rattle.tree_state.specs.declared.node.Moment.{Moment as At};
-ghost use Rattle.tree_state.specs.Commands.{IsTextOf, stat_at, get_content, get_acl, get_children, sync};
+ghost use Rattle.tree_state.specs.Commands.{stat_at, get_content, get_acl, get_children, sync};
 ghost use Rattle.tree_state.specs.Nodes.{Path};
 ghost use Rattle.tree_state.specs.State.{State, on_data, on_children};
 ghost use Rattle.tree_state.specs.Changes.{Naming};

@@ -4,8 +4,7 @@ ghost use Rattle.std.specs.Prelude.{◌≡◌, ◌<ℤ◌, ℕ, ℤ, pos, List, 
 ghost use Rattle.std.specs.BTreeMap.{Updates, get};
 ghost use Rattle.std.specs.Ordering.{nat_cmp};
 ghost use Rattle.std.specs.String.{string_bytes};
-ghost use Rattle.zk_path.specs.Paths.{text_of};
-ghost use Rattle.tree_state.specs.Commands.{IsTextOf};
+ghost use Rattle.zk_path.specs.Paths.{text_of, IsTextOf};
 ghost use Rattle.tree_state.specs.Nodes.{Path};
 ghost use Rattle.tree_state.specs.State.{Session as PlainSession, session_of, session_at, change_session, heard_at, without_session, without_connection};
 ghost use Rattle.tree_state.specs.Step.{connection_at, given_to, is_password_of, no_session as nothing_given, with_session, with_moved};

@@ -1,9 +1,8 @@
 //! The texts of paths, cut.
 
 ghost use Rattle.std.specs.Prelude.{◌≡◌, ℕ, List, ◌∷◌};
-ghost use Rattle.zk_path.specs.Paths.{IsStem, joined, text_of};
+ghost use Rattle.zk_path.specs.Paths.{IsStem, joined, text_of, IsTextOf};
 ghost use Rattle.tree_state.specs.Nodes.{Path};
-ghost use Rattle.tree_state.specs.Commands.{IsTextOf};
 
 // The text of the path above, and the last component, of a path that is not the root, or of a stem.
 pub(crate) fn parts(path: &str) -> (&str, &str)

@@ -3,8 +3,9 @@
 ghost use Rattle.std.specs.Prelude.{◌≡◌, ◌<ℤ◌, ◌≤ℤ◌, ◌↔◌, ◌-◌, ◌^◌, ℕ, List, [], pos, Some, None, All, IfOk, OnOk, OnErr, unsigned_abs};
 ghost use Rattle.std.specs.List.{AllZip};
 ghost use Rattle.std.specs.Option.{option_map};
+ghost use Rattle.zk_path.specs.Paths.{IsTextOf};
 ghost use Rattle.zk_messages.specs.Refuses.{RefusesOp};
-ghost use Rattle.tree_state.specs.Commands.{Change, Command, IsChange, IsCommand, IsTextOf, multi};
+ghost use Rattle.tree_state.specs.Commands.{Change, Command, IsChange, IsCommand, multi};
 ghost use Rattle.tree_state.specs.Nodes.{Path, find, child_names, stat_of};
 ghost use Rattle.tree_state.specs.State.{State, Session as PlainSession, start_at, session_of, session_at};
 ghost use Rattle.tree_state.specs.Changes.{Naming};
@@ -143,12 +144,14 @@ impl<N: Numberer + Drop> Tree<N> {
             return Ok(Outcome::Error { code });
         }
         match request {
-            Request::Create(asked) => {
-                alone(
-                    self.held
-                        .make(alloc, &mut self.numberer, asked, at, outputs),
-                )
-            }
+            Request::Create(asked) => alone(
+                self.held
+                    .make(alloc, &mut self.numberer, asked, false, at, outputs),
+            ),
+            Request::Create2(asked) => alone(
+                self.held
+                    .make(alloc, &mut self.numberer, asked, true, at, outputs),
+            ),
             Request::Multi(ops) => self.multi(alloc, ops, at, outputs),
             request => self.held.serve(alloc, at, connection, request, outputs),
         }

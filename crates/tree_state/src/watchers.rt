@@ -3,7 +3,7 @@
 ghost use Rattle.std.specs.Prelude.{◌≡◌, ◌==◌, List, [], not, OnOk, OnErr, IfOk};
 ghost use Rattle.std.specs.List.{list_any};
 ghost use Rattle.std.specs.Option.{option_copied};
-ghost use Rattle.tree_state.specs.Commands.{IsTextOf};
+ghost use Rattle.zk_path.specs.Paths.{IsTextOf};
 ghost use Rattle.tree_state.specs.Nodes.{Path};
 ghost use Rattle.tree_state.specs.State.{Aspect, Watch, told, left, left_of_others, watching, is_same_watch};
 ghost use Rattle.tree_state.specs.OneWatch.{IsConnectionIn, IsConnectionOut, IsPathIn, IsPathOut, IsSeenAs};

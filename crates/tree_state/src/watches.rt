@@ -2,8 +2,8 @@
 
 ghost use Rattle.std.specs.Prelude.{◌≡◌, ◌++◌, ℕ, pos, List, [], ◌∷◌, not, OnOk, OnErr, IfOk};
 ghost use Rattle.std.specs.List.{list_any};
+ghost use Rattle.zk_path.specs.Paths.{IsTextOf};
 ghost use Rattle.tree_state.specs.Changes.{events_to, creation_events, left_by_creation, end_events, deletion_events, left_by_deletion, content_events};
-ghost use Rattle.tree_state.specs.Commands.{IsTextOf};
 ghost use Rattle.tree_state.specs.Nodes.{Path};
 ghost use Rattle.tree_state.specs.State.{Watch, on_data, on_children, told, left, left_of_others, watching, is_same_watch};
 ghost use Rattle.tree_state.specs.Trees.{HasRoom};

@@ -50,6 +50,7 @@ op_one (ops.Create r) = create_one r
 op_one (ops.Delete r) = node_one r.path
 op_one (ops.SetContent r) = node_one r.path
 op_one (ops.Check r) = path_one r.path
+op_one (ops.Create2 r) = create_one r
 
 ops_one : (list : List Op) → IsOne (RefusesOps list)
 unfolding RefusesOps
@@ -77,6 +78,7 @@ one_outcome requests.Ping x y p q = p ∙ sym q
 one_outcome (requests.Multi list) x y p q = ops_one list x y p q
 one_outcome (requests.SetWatches r) x y p q = rule_one _ _ _ (rule_one _ _ _ (rule_one _ _ IsAllowed allowed_one)) x y p q
 one_outcome requests.Close x y p q = p ∙ sym q
+one_outcome (requests.Create2 r) x y p q = create_one r x y p q
 
 -- tests of a list from its front on
 pub not_all : {X : Type 0} (P : X → Type 0) (l : List X) (i : ℕ) (x : X) → i < length l → x ≡ get_or l i x → (P x → ⊥) → IsTrue false ↔ All P l

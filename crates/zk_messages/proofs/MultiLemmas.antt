@@ -103,6 +103,9 @@ reach_done kinds.SetContent r a b c head p =
     (reach_passed (pair multi_header stat) _ a c (pass_then multi_header stat _ (stat_fields p.0) a b c head p.2))
 reach_done kinds.Check r a b c head p =
     subst (λ (x : OpResult). Reaches a c (SpellsResult x)) (sym p.0) (reach_bare (pos 13) a b c head p.1)
+reach_done kinds.Create2 r a b c head p =
+    subst (λ (x : OpResult). Reaches a c (SpellsResult x)) (sym p.2)
+    (reach_passed (pair multi_header (pair ustring stat)) _ a c (pass_then multi_header (pair ustring stat) _ (p.0, stat_fields p.1) a b c head p.3))
 
 pub fail_done : (kind : OpKind) (a b : Position) (e : NotRead) → Passes a b multi_header (op_number kind, (false, pos 0)) → FailsAt b (RefusedIfAny (result_record kind)) e → FailsAt a RefusedResult e
 fail_done kind a b e head h = fail_as (BehindHeader IsBadResult) RefusedResult a e (λ place reason bad. inr bad)
@@ -115,6 +118,7 @@ number_bits kinds.Create = refl
 number_bits kinds.Delete = refl
 number_bits kinds.SetContent = refl
 number_bits kinds.Check = refl
+number_bits kinds.Create2 = refl
 
 pub add_op : (op : Op) (a b c : List ℕ) → Adds a b multi_header (to_z w32 (of_z w32 (op_number (op_kind_of op))), (false, negsuc 0)) → Adds b c (op_record (op_kind_of op)) (op_fields op) → AddsBytes a c (SpellsOp op)
 unfolding SpellsOp
@@ -125,6 +129,11 @@ add_op op a b c head p =
 pub add_created : (path : List ℕ) (a b c : List ℕ) → Adds a b multi_header (pos 1, (false, pos 0)) → Adds b c ustring path → AddsBytes a c (SpellsResult (op_results.Created path))
 unfolding SpellsResult
 add_created path a b c head p = add_as (pair multi_header ustring) _ a c (add_then multi_header ustring _ _ a b c head p)
+
+pub add_created2 : (path : List ℕ) (s : Stat) (a b c d : List ℕ) → Adds a b multi_header (pos 15, (false, pos 0)) → Adds b c ustring path → Adds c d stat (stat_fields s) → AddsBytes a d (SpellsResult (op_results.Created2 path s))
+unfolding SpellsResult
+add_created2 path s a b c d head p q =
+    add_as (pair multi_header (pair ustring stat)) _ a d (add_then multi_header (pair ustring stat) _ _ a b d head (add_then ustring stat _ _ b c d p q))
 
 pub add_deleted : (a b : List ℕ) → Adds a b multi_header (pos 2, (false, pos 0)) → AddsBytes a b (SpellsResult op_results.Deleted)
 unfolding SpellsResult

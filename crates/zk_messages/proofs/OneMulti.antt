@@ -26,6 +26,7 @@ op_numbers kinds.Create kinds.Create e = refl
 op_numbers kinds.Delete kinds.Delete e = refl
 op_numbers kinds.SetContent kinds.SetContent e = refl
 op_numbers kinds.Check kinds.Check e = refl
+op_numbers kinds.Create2 kinds.Create2 e = refl
 op_numbers k l e = absurd (omega (arith, ints, e))
 
 pub no_number : (k : OpKind) → op_number k ≡ negsuc 0 → ⊥
@@ -33,6 +34,7 @@ no_number kinds.Create e = omega (arith, ints, e)
 no_number kinds.Delete e = omega (arith, ints, e)
 no_number kinds.SetContent e = omega (arith, ints, e)
 no_number kinds.Check e = omega (arith, ints, e)
+no_number kinds.Create2 e = omega (arith, ints, e)
 
 -- two headers at the front
 pub record SameHeaders (k l : ℤ) (d f : Bool) (m n : ℤ) (a b x y : List ℕ) : Type 0 where
@@ -60,6 +62,7 @@ op_of kinds.Create v = ops.Create (create_of v)
 op_of kinds.Delete v = ops.Delete (delete_of v)
 op_of kinds.SetContent v = ops.SetContent (set_content_of v)
 op_of kinds.Check v = ops.Check (check_of v)
+op_of kinds.Create2 v = ops.Create2 (create_of v)
 
 op_back : (op : Op) → op_of (op_kind_of op) (op_fields op) ≡ op
 unfolding op_of
@@ -67,6 +70,7 @@ op_back (ops.Create r) = ap (λ x. ops.Create x) (create_back r)
 op_back (ops.Delete r) = refl
 op_back (ops.SetContent r) = refl
 op_back (ops.Check r) = refl
+op_back (ops.Create2 r) = ap (λ x. ops.Create2 x) (create_back r)
 
 same_op : (k l : OpKind) (v : Value (op_record k)) (w : Value (op_record l)) (a b x y : List ℕ) → k ≡ l → Spells (op_record k) v a → Spells (op_record l) w b → a ++ x ≡ b ++ y → (op_of k v ≡ op_of l w) × (a ≡ b) × (x ≡ y)
 same_op k l v w a b x y e p q f =
@@ -158,6 +162,7 @@ result_number op_results.Deleted = pos 2
 result_number (op_results.Changed s) = pos 5
 result_number op_results.Checked = pos 13
 result_number (op_results.Error code) = negsuc 0
+result_number (op_results.Created2 path s) = pos 15
 
 abbrev result_code : OpResult → ℤ
 result_code (op_results.Error code) = code
@@ -170,6 +175,7 @@ SpellsTail op_results.Deleted b = b ≡ []
 SpellsTail (op_results.Changed s) b = Spells stat (stat_fields s) b
 SpellsTail op_results.Checked b = b ≡ []
 SpellsTail (op_results.Error code) b = Spells int code b
+SpellsTail (op_results.Created2 path s) b = Spells (pair ustring stat) (path, stat_fields s) b
 
 -- a result is its header and this
 record ResultParts (r : OpResult) (b : List ℕ) : Type 0 where
@@ -186,6 +192,7 @@ result_parts op_results.Deleted b p = record { header = b; left = []; head = p; 
 result_parts (op_results.Changed s) b p = let h = halves multi_header stat (pos 5, (false, pos 0)) (stat_fields s) b p in record { header = h.first; left = h.second; head = h.front; tail = h.behind; cut = h.cut }
 result_parts op_results.Checked b p = record { header = b; left = []; head = p; tail = refl; cut = sym (append-nil b) }
 result_parts (op_results.Error code) b p = let h = halves multi_header int (negsuc 0, (false, code)) code b p in record { header = h.first; left = h.second; head = h.front; tail = h.behind; cut = h.cut }
+result_parts (op_results.Created2 path s) b p = let h = halves multi_header (pair ustring stat) (pos 15, (false, pos 0)) (path, stat_fields s) b p in record { header = h.first; left = h.second; head = h.front; tail = h.behind; cut = h.cut }
 
 empty_apart : (a b x y : List ℕ) → a ≡ [] → b ≡ [] → a ++ x ≡ b ++ y → (a ≡ b) × (x ≡ y)
 empty_apart a b x y p q e = (p ∙ sym q, ap (λ (l : List ℕ). l ++ x) (sym p) ∙ e ∙ ap (λ (l : List ℕ). l ++ y) q)
@@ -196,6 +203,7 @@ tails_apart op_results.Deleted op_results.Deleted a b x y e p q f = let r = empt
 tails_apart (op_results.Changed v) (op_results.Changed w) a b x y e p q f = let r = one_spelling stat (stat_fields v) (stat_fields w) a b x y p q f in (ap (λ u. op_results.Changed (stat_of u)) r.0, r.1, r.2)
 tails_apart op_results.Checked op_results.Checked a b x y e p q f = let r = empty_apart a b x y p q f in (refl, r.0, r.1)
 tails_apart (op_results.Error v) (op_results.Error w) a b x y e p q f = let r = one_spelling int v w a b x y p q f in (ap (λ u. op_results.Error u) r.0, r.1, r.2)
+tails_apart (op_results.Created2 v s) (op_results.Created2 w t) a b x y e p q f = let r = one_spelling (pair ustring stat) (v, stat_fields s) (w, stat_fields t) a b x y p q f in (ap (λ u. op_results.Created2 u.0 (stat_of u.1)) r.0, r.1, r.2)
 tails_apart v w a b x y e p q f = absurd (omega (arith, ints, e))
 
 pub one_result : AreApart SpellsResult
@@ -213,6 +221,7 @@ result_same op_results.Deleted a b p q = same_bytes multi_header _ a b p q
 result_same (op_results.Changed s) a b p q = same_bytes (pair multi_header stat) _ a b p q
 result_same op_results.Checked a b p q = same_bytes multi_header _ a b p q
 result_same (op_results.Error code) a b p q = same_bytes (pair multi_header int) _ a b p q
+result_same (op_results.Created2 path s) a b p q = same_bytes (pair multi_header (pair ustring stat)) _ a b p q
 
 -- a result is not done as the end is
 result_no_end : AreNoEnds SpellsResult IsEnd
@@ -272,6 +281,7 @@ tail_read op_results.Deleted kind done err b left y at place reason e d z p f h 
 tail_read (op_results.Changed s) kind done err b left y at place reason e d z p f h = done_read kinds.SetContent kind done err left at place reason e d z (λ k. read_or_refused stat (stat_fields s) (at + 9) b left y place reason p f k) h
 tail_read op_results.Checked kind done err b left y at place reason e d z p f h = done_read kinds.Check kind done err left at place reason e d z (λ k. k) h
 tail_read (op_results.Error code) kind done err b left y at place reason e d z p f h = error_read code kind done err b left y at place reason e d z p f h
+tail_read (op_results.Created2 path s) kind done err b left y at place reason e d z p f h = done_read kinds.Create2 kind done err left at place reason e d z (λ k. read_or_refused (pair ustring stat) (path, stat_fields s) (at + 9) b left y place reason p f k) h
 
 pub result_read : AreRead SpellsResult RefusedResult
 result_read v at b x y place reason p e h =

@@ -28,6 +28,7 @@ outcome_of shapes.Acls v = outcomes.Acls (acls_of v.0) (stat_of v.1)
 outcome_of shapes.Children v = outcomes.Children v
 outcome_of shapes.Children2 v = outcomes.Children2 v.0 (stat_of v.1)
 outcome_of shapes.Multi v = outcomes.Multi v
+outcome_of shapes.Created2 v = outcomes.Created2 v.0 (stat_of v.1)
 
 -- an outcome that is an error
 record IsError (o : Outcome) (b : List ℕ) : Type 0 where
@@ -53,6 +54,7 @@ either shapes.Acls (outcomes.Acls list s) b p = inr (record { code = refl; value
 either shapes.Children (outcomes.Children names) b p = inr (record { code = refl; value = names; spelled = p; is = refl })
 either shapes.Children2 (outcomes.Children2 names s) b p = inr (record { code = refl; value = (names, stat_fields s); spelled = p; is = refl })
 either shapes.Multi (outcomes.Multi list) b p = inr (record { code = refl; value = list; spelled = p; is = refl })
+either shapes.Created2 (outcomes.Created2 path s) b p = inr (record { code = refl; value = (path, stat_fields s); spelled = p; is = refl })
 either shape o b p = absurd p
 
 outcome_same : (shape : Shape) (o : Outcome) (a b : List ℕ) → SpellsOutcome shape o a → SpellsOutcome shape o b → a ≡ b
@@ -66,6 +68,7 @@ outcome_same shapes.Acls (outcomes.Acls list s) a b p q = form_same (form_of_sha
 outcome_same shapes.Children (outcomes.Children names) a b p q = form_same (form_of_shape shapes.Children) _ a b p q
 outcome_same shapes.Children2 (outcomes.Children2 names s) a b p q = form_same (form_of_shape shapes.Children2) _ a b p q
 outcome_same shapes.Multi (outcomes.Multi list) a b p q = form_same (form_of_shape shapes.Multi) _ a b p q
+outcome_same shapes.Created2 (outcomes.Created2 path s) a b p q = form_same (form_of_shape shapes.Created2) _ a b p q
 outcome_same shape o a b p q = absurd p
 
 one_outcome : (shape : Shape) (o p : Outcome) (b : List ℕ) → err_of o ≡ err_of p → SpellsOutcome shape o b → SpellsOutcome shape p b → o ≡ p

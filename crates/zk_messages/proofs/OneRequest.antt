@@ -31,6 +31,7 @@ kind_numbers kinds.Sync kinds.Sync e = refl
 kind_numbers kinds.Ping kinds.Ping e = refl
 kind_numbers kinds.GetChildren2 kinds.GetChildren2 e = refl
 kind_numbers kinds.Multi kinds.Multi e = refl
+kind_numbers kinds.Create2 kinds.Create2 e = refl
 kind_numbers kinds.Auth kinds.Auth e = refl
 kind_numbers kinds.SetWatches kinds.SetWatches e = refl
 kind_numbers kinds.Close kinds.Close e = refl
@@ -57,6 +58,7 @@ request_of (Some kinds.Sync) n v = requests.Sync (path_only_of v)
 request_of (Some kinds.Ping) n v = requests.Ping
 request_of (Some kinds.GetChildren2) n v = requests.GetChildren2 (path_watch_of v)
 request_of (Some kinds.Multi) n v = requests.Multi v
+request_of (Some kinds.Create2) n v = requests.Create2 (create_of v)
 request_of (Some kinds.Auth) n v = requests.Auth v
 request_of (Some kinds.SetWatches) n v = requests.SetWatches (set_watches_of v)
 request_of (Some kinds.Close) n v = requests.Close
@@ -64,6 +66,7 @@ request_of (Some kinds.Close) n v = requests.Close
 request_back : (r : Request) → request_of (kind_of r) (number_of r) (fields_of r) ≡ r
 unfolding request_of
 request_back (requests.Create r) = ap (λ x. requests.Create x) (create_back r)
+request_back (requests.Create2 r) = ap (λ x. requests.Create2 x) (create_back r)
 request_back (requests.SetAcl r) = ap (λ x. requests.SetAcl x) (set_acl_back r)
 request_back r = refl
 

@@ -94,6 +94,7 @@ op_short (ops.Create r) b p = create_short r p.1 p.3
 op_short (ops.Delete r) b p = text_short r.path p.3.0 p.3.2
 op_short (ops.SetContent r) b p = set_content_short r p.1 p.3
 op_short (ops.Check r) b p = text_short r.path p.3.0 p.3.2
+op_short (ops.Create2 r) b p = create_short r p.1 p.3
 
 tail_short : (r : Request) (b : List ℕ) → SpellsForm (form_of_any (kind_of r)) (fields_of r) b → IsShortRequest r
 unfolding SpellsForm
@@ -112,6 +113,7 @@ tail_short (requests.Multi list) b p = each_short SpellsOp IsShortOp list p.item
 tail_short (requests.SetWatches r) b p = set_watches_short r b p
 tail_short (requests.Auth body) b p = tt
 tail_short requests.Close b p = tt
+tail_short (requests.Create2 r) b p = create_short r b p
 tail_short (requests.Unknown kind body) b p = tt
 
 pub request_short : (xid : ℤ) (r : Request) (body : List ℕ) → SpellsRequest xid r body → IsShortRequest r
@@ -124,6 +126,7 @@ result_short op_results.Deleted b p = tt
 result_short (op_results.Changed s) b p = tt
 result_short op_results.Checked b p = tt
 result_short (op_results.Error code) b p = tt
+result_short (op_results.Created2 path s) b p = text_short path p.3.0 p.3.2
 
 outcome_short : (shape : Shape) (outcome : Outcome) (b : List ℕ) → SpellsOutcome shape outcome b → IsShortOutcome outcome
 unfolding SpellsOutcome SpellsForm Spells
@@ -136,6 +139,7 @@ outcome_short shapes.Acls (outcomes.Acls list s) b p = acls_short list p.0 p.2
 outcome_short shapes.Children (outcomes.Children names) b p = texts_short names b p
 outcome_short shapes.Children2 (outcomes.Children2 names s) b p = texts_short names p.0 p.2
 outcome_short shapes.Multi (outcomes.Multi list) b p = each_short SpellsResult IsShortResult list p.items result_short p.each
+outcome_short shapes.Created2 (outcomes.Created2 path s) b p = text_short path p.0 p.2
 outcome_short shape outcome b p = absurd p
 
 pub reply_short : (shape : Shape) (r : Reply) (body : List ℕ) → SpellsReply shape r body → IsShortOutcome r.outcome

@@ -62,11 +62,15 @@ pub results_read : (list : List OpResult) (a b : Position) → Reaches a b (Spel
 unfolding SpellsOutcome SpellsForm
 results_read list a b p = record { bytes = p.bytes; is = p.is; cut = p.cut; moved = p.moved }
 
+pub created2_read : (path : List ℕ) (s : Stat) (a b : Position) → Passes a b (pair ustring stat) (path, stat_fields s) → Reaches a b (SpellsOutcome shapes.Created2 (outcomes.Created2 path s))
+unfolding SpellsOutcome SpellsForm
+created2_read path s a b p = record { bytes = p.bytes; is = p.spelled; cut = p.cut; moved = p.moved }
+
 pub front_fails : (t : Jute) (a : Position) (e : NotRead) → Fails a t e → FailsAt a (λ at b place reason. IsRefused t at b place reason) e
 front_fails t a (Refused r) h = record { refused = h.refused.refused }
 front_fails t a Memory h = record { refused = tt }
 
-pub ruleset outcomes_read = (empty_read, path_read, stat_read, content_read, acls_read, children_read, children2_read, results_read, front_fails)
+pub ruleset outcomes_read = (empty_read, path_read, stat_read, content_read, acls_read, children_read, children2_read, results_read, created2_read, front_fails)
 
 -- replies
 pub reply_header_fails : (shape : Shape) (a : Position) (body : List ℕ) (e : NotRead) → a ≡ record { place = 0; left = body } → Fails a reply_header e → FailsBody body (RefusedReply shape) e
@@ -147,6 +151,7 @@ front_of shapes.Acls at b place reason h = h
 front_of shapes.Children at b place reason h = h
 front_of shapes.Children2 at b place reason h = h
 front_of shapes.Multi at b place reason h = h
+front_of shapes.Created2 at b place reason h = h
 
 pub outcome_fails : (shape : Shape) (xid zxid err : ℤ) (a b : Position) (body : List ℕ) (e : NotRead) → a ≡ record { place = 0; left = body } → Passes a b reply_header (xid, (zxid, err)) → err ≡ pos 0 → FailsAt b (RefusedFront (form_of_shape shape)) e → FailsBody body (RefusedReply shape) e
 outcome_fails shape xid zxid err a b body (Refused r) at p none h = bad_outcome shape xid zxid err a b body r at p none (front_of shape b.place b.left r.place r.reason (inl h.refused))
@@ -164,6 +169,7 @@ outcome_value shapes.Acls (outcomes.Acls list s) b none h = ((acls_fields list, 
 outcome_value shapes.Children (outcomes.Children names) b none h = (names, h)
 outcome_value shapes.Children2 (outcomes.Children2 names s) b none h = ((names, stat_fields s), h)
 outcome_value shapes.Multi (outcomes.Multi list) b none h = (list, h)
+outcome_value shapes.Created2 (outcomes.Created2 path s) b none h = ((path, stat_fields s), h)
 outcome_value shape o b none h = absurd h
 
 pub outcome_followed : (shape : Shape) (xid zxid err : ℤ) (o : Outcome) (a b c : Position) (body : List ℕ) (r : Refusal) → a ≡ record { place = 0; left = body } → Passes a b reply_header (xid, (zxid, err)) → err ≡ pos 0 → Reaches b c (SpellsOutcome shape o) → err_of o ≡ pos 0 → (0 < length c.left) × (r ≡ record { place = c.place; reason = Trailing }) → FailsBody body (RefusedReply shape) (Refused r)
@@ -269,7 +275,15 @@ results_is list b p shape h = absurd h
 pub results_added : (list : List OpResult) (a b : List ℕ) → AddsBytes a b (SpellsResults list) → AddsBytes a b (IsOutcome (outcomes.Multi list))
 results_added list a b p = record { bytes = p.bytes; is = results_is list p.bytes p.is; added = p.added }
 
-pub ruleset outcomes_added = (error_added, empty_added, path_added, stat_added, content_added, acls_added, children_added, children2_added, results_added)
+created2_is : (path : List ℕ) (s : Stat) (b : List ℕ) → Spells (pair ustring stat) (path, stat_fields s) b → IsOutcome (outcomes.Created2 path s) b
+unfolding SpellsOutcome SpellsForm
+created2_is path s b p shapes.Created2 h = p
+created2_is path s b p shape h = absurd h
+
+pub created2_added : (path : List ℕ) (s : Stat) (a b : List ℕ) → Adds a b (pair ustring stat) (path, stat_fields s) → AddsBytes a b (IsOutcome (outcomes.Created2 path s))
+created2_added path s a b p = record { bytes = p.bytes; is = created2_is path s p.bytes p.spelled; added = p.added }
+
+pub ruleset outcomes_added = (error_added, empty_added, path_added, stat_added, content_added, acls_added, children_added, children2_added, results_added, created2_added)
 
 pub reply_added : (r : Reply) (h : ReplyHeader) (a b c : List ℕ) → h ≡ record { xid = r.xid; zxid = r.zxid; err = err_of r.outcome } → Adds a b reply_header (reply_header_fields h) → AddsBytes b c (IsOutcome r.outcome) → AddsBytes a c (IsReply r)
 reply_added r h a b c same p q = record {

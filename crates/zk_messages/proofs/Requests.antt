@@ -58,6 +58,7 @@ front_of kinds.Sync at b place reason other h = h
 front_of kinds.Ping at b place reason other h = h
 front_of kinds.GetChildren2 at b place reason other h = h
 front_of kinds.Multi at b place reason other h = h
+front_of kinds.Create2 at b place reason other h = h
 front_of kinds.Auth at b place reason other h = absurd (other refl)
 front_of kinds.SetWatches at b place reason other h = h
 front_of kinds.Close at b place reason other h = h

@@ -28,6 +28,7 @@ op_judged (ops.Create r) h = judged r.path h.0
 op_judged (ops.Delete r) h = judged r.path h
 op_judged (ops.SetContent r) h = judged r.path h.0
 op_judged (ops.Check r) h = judged r.path h
+op_judged (ops.Create2 r) h = judged r.path h.0
 
 pub request_judged : (r : Request) → HasShortParts r → HasShortPaths r
 unfolding HasShortParts
@@ -46,6 +47,7 @@ request_judged (requests.Multi list) h = All-weaker HasShortOpParts HasShortPath
 request_judged (requests.SetWatches r) h = (list_judged _ h.0, list_judged _ h.1, list_judged _ h.2)
 request_judged (requests.Auth body) h = tt
 request_judged requests.Close h = tt
+request_judged (requests.Create2 r) h = judged r.path h.0
 request_judged (requests.Unknown kind body) h = tt
 
 -- ---- what was read is no longer than its body
@@ -72,6 +74,7 @@ op_short (ops.Create r) h = (omega (arith, h), content_short r.content (omega (a
 op_short (ops.Delete r) h = omega (arith, h)
 op_short (ops.SetContent r) h = (omega (arith, h), content_short r.content (omega (arith, h)))
 op_short (ops.Check r) h = omega (arith, h)
+op_short (ops.Create2 r) h = (omega (arith, h), content_short r.content (omega (arith, h)))
 
 request_short : (r : Request) → request_size r ≤ 2 ^ 27 → HasShortParts r
 unfolding HasShortParts
@@ -91,6 +94,7 @@ request_short (requests.SetWatches r) h =
     (list_short r.content_paths (omega (arith, h)), list_short r.exist_paths (omega (arith, h)), list_short r.child_paths (omega (arith, h)))
 request_short (requests.Auth body) h = tt
 request_short requests.Close h = tt
+request_short (requests.Create2 r) h = (omega (arith, h), content_short r.content (omega (arith, h)))
 request_short (requests.Unknown kind body) h = tt
 
 pub short_when_read : IsShortWhenRead

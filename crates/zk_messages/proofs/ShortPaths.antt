@@ -22,6 +22,7 @@ op_below (ops.Create r) h = below r.path h.path
 op_below (ops.Delete r) h = below r.path h
 op_below (ops.SetContent r) h = below r.path h.path
 op_below (ops.Check r) h = below r.path h
+op_below (ops.Create2 r) h = below r.path h.path
 
 pub short_paths : (r : Request) → IsShortRequest r → HasShortPaths r
 short_paths (requests.Unknown kind body) h = tt
@@ -40,3 +41,4 @@ short_paths requests.Ping h = tt
 short_paths (requests.Multi list) h = All-weaker IsShortOp HasShortPath op_below list h
 short_paths (requests.SetWatches r) h = (texts_below r.content_paths h.content_paths, texts_below r.exist_paths h.exist_paths, texts_below r.child_paths h.child_paths)
 short_paths requests.Close h = tt
+short_paths (requests.Create2 r) h = below r.path h.path

@@ -91,6 +91,7 @@ request_size (requests.Multi list) = sum_by op_size list + 9
 request_size (requests.SetWatches r) = size set_watches (set_watches_fields r)
 request_size (requests.Auth body) = length body
 request_size requests.Close = 0
+request_size (requests.Create2 r) = size create_request (create_fields r)
 request_size (requests.Unknown kind body) = length body
 
 rest_size : (r : Request) (b : List ℕ) → SpellsForm (form_of_any (kind_of r)) (fields_of r) b → length b ≡ request_size r
@@ -110,6 +111,7 @@ rest_size (requests.Multi list) b h = ops_spelled_size list b h
 rest_size (requests.SetWatches r) b h = spelled_size set_watches (set_watches_fields r) b h
 rest_size (requests.Auth body) b h = ap length h
 rest_size requests.Close b h = ap length h
+rest_size (requests.Create2 r) b h = spelled_size create_request (create_fields r) b h
 rest_size (requests.Unknown kind body) b h = ap length h
 
 pub body_size : (xid : ℤ) (r : Request) (b : List ℕ) → SpellsRequest xid r b → length b ≡ request_size r + 8

@@ -23,6 +23,7 @@ kind_number kinds.Sync = pos 9
 kind_number kinds.Ping = pos 11
 kind_number kinds.GetChildren2 = pos 12
 kind_number kinds.Multi = pos 14
+kind_number kinds.Create2 = pos 15
 kind_number kinds.Auth = pos 100
 kind_number kinds.SetWatches = pos 101
 kind_number kinds.Close = negsuc 10
@@ -44,6 +45,7 @@ kind_of (requests.Multi list) = Some kinds.Multi
 kind_of (requests.SetWatches r) = Some kinds.SetWatches
 kind_of (requests.Auth body) = Some kinds.Auth
 kind_of requests.Close = Some kinds.Close
+kind_of (requests.Create2 r) = Some kinds.Create2
 kind_of (requests.Unknown number body) = None
 
 abbrev pub op_number : OpKind → ℤ
@@ -51,9 +53,11 @@ op_number op_kinds.Create = pos 1
 op_number op_kinds.Delete = pos 2
 op_number op_kinds.SetContent = pos 5
 op_number op_kinds.Check = pos 13
+op_number op_kinds.Create2 = pos 15
 
 abbrev pub op_kind_of : Op → OpKind
 op_kind_of (ops.Create r) = op_kinds.Create
 op_kind_of (ops.Delete r) = op_kinds.Delete
 op_kind_of (ops.SetContent r) = op_kinds.SetContent
 op_kind_of (ops.Check r) = op_kinds.Check
+op_kind_of (ops.Create2 r) = op_kinds.Create2

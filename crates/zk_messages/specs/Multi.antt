@@ -37,12 +37,14 @@ op_record kinds.Create = create_request
 op_record kinds.Delete = delete_request
 op_record kinds.SetContent = set_content_request
 op_record kinds.Check = check_request
+op_record kinds.Create2 = create_request
 
 abbrev pub op_fields : (op : Op) → Value (op_record (op_kind_of op))
 op_fields (ops.Create r) = create_fields r
 op_fields (ops.Delete r) = delete_fields r
 op_fields (ops.SetContent r) = set_content_fields r
 op_fields (ops.Check r) = check_fields r
+op_fields (ops.Create2 r) = create_fields r
 
 -- the bytes are this operation: the header (type, 0, -1) and the record
 unfoldable pub SpellsOp : Op → List ℕ → Type 0
@@ -55,6 +57,7 @@ SpellsResult op_results.Deleted b = IsHeader (pos 2) false (pos 0) b
 SpellsResult (op_results.Changed s) b = Spells (pair multi_header stat) ((pos 5, (false, pos 0)), stat_fields s) b
 SpellsResult op_results.Checked b = IsHeader (pos 13) false (pos 0) b
 SpellsResult (op_results.Error code) b = Spells (pair multi_header int) ((negsuc 0, (false, code)), code) b
+SpellsResult (op_results.Created2 path s) b = Spells (pair multi_header (pair ustring stat)) ((pos 15, (false, pos 0)), (path, stat_fields s)) b
 
 abbrev pub SpellsOps : List Op → List ℕ → Type 0
 SpellsOps list b = Ended SpellsOp IsEnd list b
@@ -95,6 +98,7 @@ result_record kinds.Create = Some ustring
 result_record kinds.Delete = None
 result_record kinds.SetContent = Some stat
 result_record kinds.Check = None
+result_record kinds.Create2 = Some (pair ustring stat)
 
 abbrev pub RefusedIfAny : Option Jute → ℕ → List ℕ → ℕ → Reason → Type 0
 RefusedIfAny None at b place reason = ⊥

@@ -87,6 +87,7 @@ RefusesOp (ops.Create r) outcome = RefusesCreate r outcome
 RefusesOp (ops.Delete r) outcome = RefusesNode r.path outcome
 RefusesOp (ops.SetContent r) outcome = RefusesNode r.path outcome
 RefusesOp (ops.Check r) outcome = RefusesPath r.path outcome
+RefusesOp (ops.Create2 r) outcome = RefusesCreate r outcome
 
 -- a multi has the refusal of its first operation that has one
 unfoldable pub RefusesOps : List Op → Option ℤ → Type 0
@@ -112,6 +113,7 @@ Refuses requests.Ping outcome = IsAllowed outcome
 Refuses (requests.Multi list) outcome = RefusesOps list outcome
 Refuses (requests.SetWatches r) outcome = RefusesWatches r outcome
 Refuses requests.Close outcome = IsAllowed outcome
+Refuses (requests.Create2 r) outcome = RefusesCreate r outcome
 
 -- Texts that can be judged: the place of a fault in one is a u32.
 abbrev pub IsShortText : List ℕ → Type 0
@@ -125,6 +127,7 @@ HasShortPath (ops.Create r) = IsShortText r.path
 HasShortPath (ops.Delete r) = IsShortText r.path
 HasShortPath (ops.SetContent r) = IsShortText r.path
 HasShortPath (ops.Check r) = IsShortText r.path
+HasShortPath (ops.Create2 r) = IsShortText r.path
 
 abbrev pub HasShortPaths : Request → Type 0
 HasShortPaths (requests.Unknown kind body) = Unit {0}
@@ -143,6 +146,7 @@ HasShortPaths requests.Ping = Unit {0}
 HasShortPaths (requests.Multi list) = All HasShortPath list
 HasShortPaths (requests.SetWatches r) = AreShortTexts r.content_paths × AreShortTexts r.exist_paths × AreShortTexts r.child_paths
 HasShortPaths requests.Close = Unit {0}
+HasShortPaths (requests.Create2 r) = IsShortText r.path
 
 -- a request has one refusal, or none
 abbrev pub HasOneOutcome : Request → Type 0

@@ -26,6 +26,7 @@ SpellsOutcome shapes.Acls (outcomes.Acls list s) b = SpellsForm (form_of_shape s
 SpellsOutcome shapes.Children (outcomes.Children names) b = SpellsForm (form_of_shape shapes.Children) names b
 SpellsOutcome shapes.Children2 (outcomes.Children2 names s) b = SpellsForm (form_of_shape shapes.Children2) (names, stat_fields s) b
 SpellsOutcome shapes.Multi (outcomes.Multi list) b = SpellsForm (form_of_shape shapes.Multi) list b
+SpellsOutcome shapes.Created2 (outcomes.Created2 path s) b = SpellsForm (form_of_shape shapes.Created2) (path, stat_fields s) b
 SpellsOutcome shape outcome b = ⊥
 
 -- a reply with this outcome has this shape, or it is an error
@@ -39,6 +40,7 @@ HasShape shapes.Acls (outcomes.Acls list s) = Unit {0}
 HasShape shapes.Children (outcomes.Children names) = Unit {0}
 HasShape shapes.Children2 (outcomes.Children2 names s) = Unit {0}
 HasShape shapes.Multi (outcomes.Multi list) = Unit {0}
+HasShape shapes.Created2 (outcomes.Created2 path s) = Unit {0}
 HasShape shape outcome = ⊥
 
 -- the bytes are this outcome, in each shape that it has

@@ -45,6 +45,7 @@ fields_of (requests.Multi list) = list
 fields_of (requests.SetWatches r) = set_watches_fields r
 fields_of (requests.Auth body) = body
 fields_of requests.Close = tt
+fields_of (requests.Create2 r) = create_fields r
 fields_of (requests.Unknown kind body) = body
 
 -- -1 is the xid of events, and -2 that of pings alone

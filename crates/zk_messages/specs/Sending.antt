@@ -24,6 +24,7 @@ IsShortOp (ops.Create r) = IsShortCreate r
 IsShortOp (ops.Delete r) = length r.path < 2 ^ 31
 IsShortOp (ops.SetContent r) = IsShortSetContent r
 IsShortOp (ops.Check r) = length r.path < 2 ^ 31
+IsShortOp (ops.Create2 r) = IsShortCreate r
 
 abbrev pub IsShortRequest : Request → Type 0
 IsShortRequest (requests.Create r) = IsShortCreate r
@@ -41,6 +42,7 @@ IsShortRequest (requests.Multi list) = All IsShortOp list
 IsShortRequest (requests.SetWatches r) = IsShortSetWatches r
 IsShortRequest (requests.Auth body) = Unit {0}
 IsShortRequest requests.Close = Unit {0}
+IsShortRequest (requests.Create2 r) = IsShortCreate r
 IsShortRequest (requests.Unknown kind body) = Unit {0}
 
 abbrev pub IsShortResult : OpResult → Type 0
@@ -49,6 +51,7 @@ IsShortResult op_results.Deleted = Unit {0}
 IsShortResult (op_results.Changed stat) = Unit {0}
 IsShortResult op_results.Checked = Unit {0}
 IsShortResult (op_results.Error code) = Unit {0}
+IsShortResult (op_results.Created2 path stat) = length path < 2 ^ 31
 
 -- and the code of an error is not 0
 abbrev pub IsShortOutcome : Outcome → Type 0
@@ -61,3 +64,4 @@ IsShortOutcome (outcomes.Acls list stat) = IfSome list AreShortAcls
 IsShortOutcome (outcomes.Children names) = IfSome names AreShort
 IsShortOutcome (outcomes.Children2 names stat) = IfSome names AreShort
 IsShortOutcome (outcomes.Multi list) = All IsShortResult list
+IsShortOutcome (outcomes.Created2 path stat) = length path < 2 ^ 31

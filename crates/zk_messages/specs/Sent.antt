@@ -4,9 +4,9 @@ use Rattle.jute_core.specs.Frames.{frame}
 use Rattle.zk_messages.specs.Items.{IsItem}
 use Rattle.zk_messages.specs.declared.request.Item.{Item}
 
--- the most bytes of a client's frame (the default of jute.maxbuffer)
+-- the most bytes of a client's frame: this project's limit, four megabytes less one byte
 abbrev pub client_limit : ℕ
-client_limit = 1048575
+client_limit = 4194303
 
 -- one frame with this item, and then more bytes
 pub record BeginsWith (first : Bool) (item : Item) (more bytes : List ℕ) : Type 0 where

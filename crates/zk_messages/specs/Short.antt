@@ -20,6 +20,7 @@ HasShortOpParts (ops.Create r) = IsShort r.path × IsShortContent r.content
 HasShortOpParts (ops.Delete r) = IsShort r.path
 HasShortOpParts (ops.SetContent r) = IsShort r.path × IsShortContent r.content
 HasShortOpParts (ops.Check r) = IsShort r.path
+HasShortOpParts (ops.Create2 r) = IsShort r.path × IsShortContent r.content
 
 unfoldable pub HasShortParts : Request → Type 0
 HasShortParts (requests.Create r) = IsShort r.path × IsShortContent r.content
@@ -37,4 +38,5 @@ HasShortParts (requests.Multi list) = All HasShortOpParts list
 HasShortParts (requests.SetWatches r) = AreShort r.content_paths × AreShort r.exist_paths × AreShort r.child_paths
 HasShortParts (requests.Auth body) = Unit {0}
 HasShortParts requests.Close = Unit {0}
+HasShortParts (requests.Create2 r) = IsShort r.path × IsShortContent r.content
 HasShortParts (requests.Unknown kind body) = Unit {0}

@@ -67,6 +67,17 @@ fn read_children2(alloc: Global, cursor: &mut Cursor<'_>) -> Result<Outcome, Not
     Ok(Outcome::Children2 { children, stat })
 }
 
+#[tactic(auto, using(jute_core::proofs::Glue::glue, crate::proofs::Replies::outcomes_read))]
+fn read_created2(alloc: Global, cursor: &mut Cursor<'_>) -> Result<Outcome, NotRead>
+    ensures ok { IfOk result (λ outcome. Reaches cursor.old cursor.new (SpellsOutcome Shape.Created2 outcome)) }
+    ensures done { IfOk result (λ outcome. err_of outcome ≡ pos 0) }
+    ensures refused { IfErr result (FailsAt cursor.old (RefusedFront (form_of_shape Shape.Created2))) }
+{
+    let path = read_text(alloc, cursor)?;
+    let stat = Stat::read(cursor)?;
+    Ok(Outcome::Created2 { path, stat })
+}
+
 // The outcome of a request that is no error.
 #[tactic(auto, using(jute_core::proofs::Glue::glue, crate::proofs::Replies::outcomes_read))]
 fn read_outcome(alloc: Global, shape: Shape, cursor: &mut Cursor<'_>) -> Result<Outcome, NotRead>
@@ -83,6 +94,7 @@ fn read_outcome(alloc: Global, shape: Shape, cursor: &mut Cursor<'_>) -> Result<
         Shape::Children => Ok(Outcome::Children(read_texts(alloc, cursor)?)),
         Shape::Children2 => read_children2(alloc, cursor),
         Shape::Multi => Ok(Outcome::Multi(read_results(alloc, cursor)?)),
+        Shape::Created2 => read_created2(alloc, cursor),
     }
 }
 
@@ -152,6 +164,10 @@ fn put_outcome(outcome: &Outcome, into: &mut Vec<u8>) -> Result<(), Memory>
             stat.write(into)
         }
         Outcome::Multi(results) => put_results(results.as_slice(), into),
+        Outcome::Created2 { path, stat } => {
+            put_ustring(into, path.as_str())?;
+            stat.write(into)
+        }
     }
 }
 

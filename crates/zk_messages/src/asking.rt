@@ -54,6 +54,7 @@ fn read_fields(alloc: Global, kind: Kind, cursor: &mut Cursor<'_>) -> Result<Req
         Kind::Ping => Ok(Request::Ping),
         Kind::GetChildren2 => Ok(Request::GetChildren2(PathWatch::read(alloc, cursor)?)),
         Kind::Multi => Ok(Request::Multi(read_ops(alloc, cursor)?)),
+        Kind::Create2 => Ok(Request::Create2(CreateRequest::read(alloc, cursor)?)),
         Kind::Auth => unreachable!(),
         Kind::SetWatches => Ok(Request::SetWatches(SetWatches::read(alloc, cursor)?)),
         Kind::Close => Ok(Request::Close),
@@ -151,6 +152,7 @@ fn put_fields(request: &Request, into: &mut Vec<u8>) -> Result<(), Memory>
         Request::SetWatches(request) => request.write(into),
         Request::Auth(body) => put_unread(body, into),
         Request::Close => Ok(()),
+        Request::Create2(request) => request.write(into),
         Request::Unknown { body, .. } => put_unread(body, into),
     }
 }

@@ -20,6 +20,7 @@ pub enum Kind {
     Ping,
     GetChildren2,
     Multi,
+    Create2,
     Auth,
     SetWatches,
     Close,
@@ -43,6 +44,7 @@ impl Kind {
             Kind::Ping => 11,
             Kind::GetChildren2 => 12,
             Kind::Multi => 14,
+            Kind::Create2 => 15,
             Kind::Auth => 100,
             Kind::SetWatches => 101,
             Kind::Close => -11,
@@ -67,6 +69,7 @@ impl Kind {
             11 => Some(Kind::Ping),
             12 => Some(Kind::GetChildren2),
             14 => Some(Kind::Multi),
+            15 => Some(Kind::Create2),
             100 => Some(Kind::Auth),
             101 => Some(Kind::SetWatches),
             -11 => Some(Kind::Close),
@@ -82,6 +85,7 @@ pub enum OpKind {
     Delete,
     SetContent,
     Check,
+    Create2,
 }
 
 impl OpKind {
@@ -94,6 +98,7 @@ impl OpKind {
             OpKind::Delete => 2,
             OpKind::SetContent => 5,
             OpKind::Check => 13,
+            OpKind::Create2 => 15,
         }
     }
 
@@ -107,6 +112,7 @@ impl OpKind {
             2 => Some(OpKind::Delete),
             5 => Some(OpKind::SetContent),
             13 => Some(OpKind::Check),
+            15 => Some(OpKind::Create2),
             _ => None,
         }
     }

@@ -1,9 +1,10 @@
 //! Reading and writing multis.
 
 ghost use Rattle.std.specs.Prelude.{◌≡◌, pos, negsuc, ◌+◌, ◌<◌, ◌^◌, length, false, All, IfOk, IfErr, IfSome, IfNone, OnOk, OnErr};
-ghost use Rattle.jute_core.specs.Jute.{int, pair};
+ghost use Rattle.jute_core.specs.Jute.{int, ustring, pair};
 ghost use Rattle.jute_core.specs.Position.{Adds, Appends, Grows, Passes};
 ghost use Rattle.jute_core.specs.Records.{Fails, ReadsOrMemory};
+ghost use Rattle.zk_records.specs.Stats.{stat};
 ghost use Rattle.zk_messages.specs.Kinds.{op_number, op_kind_of};
 ghost use Rattle.zk_messages.specs.Multi.{multi_header, multi_header_fields, op_record, op_fields, result_record, IsEnd, IsBadMark, IsBadRepeat, RefusedIfAny};
 ghost use Rattle.zk_messages.specs.Multi.{SpellsOp, SpellsOps, RefusedOp, RefusedOps, SpellsResult, SpellsResults, RefusedResult, RefusedResults};
@@ -104,6 +105,7 @@ fn read_op(alloc: Global, kind: OpKind, cursor: &mut Cursor<'_>) -> Result<Op, N
         OpKind::Delete => Ok(Op::Delete(DeleteRequest::read(alloc, cursor)?)),
         OpKind::SetContent => Ok(Op::SetContent(SetContentRequest::read(alloc, cursor)?)),
         OpKind::Check => Ok(Op::Check(CheckRequest::read(alloc, cursor)?)),
+        OpKind::Create2 => Ok(Op::Create2(CreateRequest::read(alloc, cursor)?)),
     }
 }
 
@@ -152,6 +154,7 @@ fn put_record(op: &Op, into: &mut Vec<u8>) -> Result<(), Memory>
         Op::Delete(request) => request.write(into),
         Op::SetContent(request) => request.write(into),
         Op::Check(request) => request.write(into),
+        Op::Create2(request) => request.write(into),
     }
 }
 
@@ -201,6 +204,17 @@ fn read_repeat(err: i32, cursor: &mut Cursor<'_>) -> Result<OpResult, NotRead>
     Ok(OpResult::Error { code })
 }
 
+// The path and the Stat of a node that was made.
+#[tactic(auto, using(jute_core::proofs::Glue::glue))]
+fn read_created2(alloc: Global, cursor: &mut Cursor<'_>) -> Result<OpResult, NotRead>
+    ensures ok { IfOk result (IsDone OpKind.Create2 cursor.old cursor.new) }
+    ensures refused { IfErr result (Fails cursor.old (pair ustring stat)) }
+{
+    let path = read_text(alloc, cursor)?;
+    let stat = Stat::read(cursor)?;
+    Ok(OpResult::Created2 { path, stat })
+}
+
 // What belongs to the result of an operation.
 fn read_done(alloc: Global, kind: OpKind, cursor: &mut Cursor<'_>) -> Result<OpResult, NotRead>
     ensures ok { IfOk result (IsDone kind cursor.old cursor.new) }
@@ -211,6 +225,7 @@ fn read_done(alloc: Global, kind: OpKind, cursor: &mut Cursor<'_>) -> Result<OpR
         OpKind::Delete => Ok(OpResult::Deleted),
         OpKind::SetContent => Ok(OpResult::Changed(Stat::read(cursor)?)),
         OpKind::Check => Ok(OpResult::Checked),
+        OpKind::Create2 => read_created2(alloc, cursor),
     }
 }
 
@@ -299,6 +314,11 @@ fn put_result(value: &OpResult, into: &mut Vec<u8>) -> Result<(), Memory>
         }
         OpResult::Checked => put_done(OpKind::Check, into)?,
         OpResult::Error { code } => put_error(*code, into)?,
+        OpResult::Created2 { path, stat } => {
+            put_done(OpKind::Create2, into)?;
+            put_ustring(into, path.as_str())?;
+            stat.write(into)?;
+        }
     }
     Ok(())
 }

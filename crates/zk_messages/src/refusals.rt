@@ -193,6 +193,7 @@ fn refusal_of_op(op: &Op) -> Option<i32>
         Op::Delete(request) => refusal_of_node(&request.path),
         Op::SetContent(request) => refusal_of_node(&request.path),
         Op::Check(request) => refusal_of_path(&request.path),
+        Op::Create2(create) => refusal_of_create(create),
     }
 }
 
@@ -215,7 +216,7 @@ fn refusal_of_ops(ops: &[Op]) -> Option<i32>
 /// The first that fits: -6 an unknown type; -115 auth; -8 an illegal path, for a create with flags 2
 /// or 3 an illegal stem; -8 the root with getData, setData, delete, or create with other flags than
 /// these; -8 flags outside 0 to 3; -114 in create and setACL a list other than the one entry (31,
-/// `world`, `anyone`). setWatches has -8 where any of its paths is illegal, and a multi has the
+/// `world`, `anyone`). create2 is judged as create. setWatches has -8 where any of its paths is illegal, and a multi has the
 /// refusal of its first operation that has one.
 #[tactic(auto, unfolding(crate::specs::Refuses::Refuses))]
 pub fn refusal_of(request: &Request) -> Option<i32>
@@ -239,6 +240,7 @@ pub fn refusal_of(request: &Request) -> Option<i32>
         Request::Multi(ops) => refusal_of_ops(ops.as_slice()),
         Request::SetWatches(watches) => refusal_of_watches(watches),
         Request::Close => None,
+        Request::Create2(create) => refusal_of_create(create),
     }
 }
 

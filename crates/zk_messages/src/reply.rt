@@ -21,6 +21,8 @@ pub enum OpResult {
     /// The multi failed: 0 for an operation before the one that failed, the code of that one, and -2
     /// for those after it.
     Error { code: i32 },
+    /// The node with this path was made; its Stat.
+    Created2 { path: Text, stat: Stat },
 }
 
 /// What the operations of a multi came to, in order.
@@ -89,6 +91,8 @@ pub enum Outcome {
     Children2 { children: Option<Texts>, stat: Stat },
     /// The results of a multi.
     Multi(Results),
+    /// The path of the node that was made, and its Stat.
+    Created2 { path: Text, stat: Stat },
 }
 
 /// The kind of outcome that a request has where it is no error.
@@ -102,6 +106,7 @@ pub enum Shape {
     Children,
     Children2,
     Multi,
+    Created2,
 }
 
 /// The answer to a request.

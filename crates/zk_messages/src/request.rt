@@ -23,6 +23,8 @@ pub enum Op {
     SetContent(SetContentRequest),
     /// A node has to be there, in this version.
     Check(CheckRequest),
+    /// Make a node, and tell its Stat.
+    Create2(CreateRequest),
 }
 
 impl Op {
@@ -35,6 +37,7 @@ impl Op {
             Op::Delete(_) => OpKind::Delete,
             Op::SetContent(_) => OpKind::SetContent,
             Op::Check(_) => OpKind::Check,
+            Op::Create2(_) => OpKind::Create2,
         }
     }
 }
@@ -117,6 +120,8 @@ pub enum Request {
     Auth(Bytes),
     /// The session ends.
     Close,
+    /// Make a node, and tell its Stat.
+    Create2(CreateRequest),
     /// A type that is none of these, and the rest of the body, which is not read.
     Unknown { kind: i32, body: Bytes },
 }
@@ -142,6 +147,7 @@ impl Request {
             Request::SetWatches(_) => Some(Kind::SetWatches),
             Request::Auth(_) => Some(Kind::Auth),
             Request::Close => Some(Kind::Close),
+            Request::Create2(_) => Some(Kind::Create2),
             Request::Unknown { .. } => None,
         }
     }

@@ -3,7 +3,7 @@
 -- A path is the list of its components, each as its bytes, the last one first; the root is the empty list.
 -- A stem, to which ten digits are appended, is a list of at least one component, whose last may be empty.
 -- So the text / is the empty list as a path, and the list of one empty component as a stem.
-use Rattle.std.specs.Prelude.{◌≡◌, ◌≢◌, ℕ, List, [], ◌∷◌, ◌++◌, ◌⊎◌, Option, Some, None, All, codes}
+use Rattle.std.specs.Prelude.{◌≡◌, ◌≢◌, ℕ, List, [], ◌∷◌, ◌++◌, ◌⊎◌, Bool, true, false, Option, Some, None, All, codes}
 use Rattle.std.specs.Int.{IsInRange}
 use Rattle.std.specs.Str.{IsUtf8, chars}
 
@@ -62,3 +62,13 @@ IsPathText text = (p : List (List ℕ)) × IsPath p × (text ≡ text_of p)
 
 abbrev pub IsStemText : List ℕ → Type 0
 IsStemText text = (s : List (List ℕ)) × IsStem s × (text ≡ joined s)
+
+-- the text is this legal path's
+pub record IsTextOf (text : List ℕ) (p : List (List ℕ)) : Type 0 where
+  pub legal : IsPath p
+  pub spelled : text ≡ text_of p
+
+-- the text of a node to be made: this stem's where a number will follow, and else this path's
+unfoldable pub IsNamed : Bool → List ℕ → List (List ℕ) → Type 0
+IsNamed true text s = IsStem s × (text ≡ joined s)
+IsNamed false text p = IsTextOf text p

@@ -1,7 +1,7 @@
 use Rattle.std.proofs.Common.{◌≡◌, ◌++◌, pos, filter}
 use Rattle.std.specs.Option.{option_copied}
+use Rattle.zk_path.specs.Paths.{IsTextOf}
 use Rattle.tree_state.specs.Changes.{events_to, is_not_in}
-use Rattle.tree_state.specs.Commands.{IsTextOf}
 use Rattle.tree_state.specs.Nodes.{Path}
 use Rattle.tree_state.specs.Watches.{members}
 use Rattle.tree_state.proofs.events.tell_others.Given as goal

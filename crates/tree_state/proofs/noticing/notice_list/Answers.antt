@@ -1,6 +1,6 @@
 use Rattle.std.proofs.Common.{◌∙◌, ◌∷◌, ◌+◌, ℕ, List, arith, drop, sym, ap, subst}
 use Rattle.std.proofs.lemmas.List.{drop_more, drop_all}
-use Rattle.tree_state.specs.Commands.{IsTextOf}
+use Rattle.zk_path.specs.Paths.{IsTextOf}
 use Rattle.tree_state.proofs.Notices.{out_of_memory, no_list, first_ahead, next_ahead, stopped_ahead, ended_ahead}
 use Rattle.tree_state.proofs.noticing.notice_list.Goals as goal
 

@@ -3,14 +3,13 @@ use Rattle.std.specs.Prelude.{◌==◌, All}
 use Rattle.std.specs.Str.Pattern.{RFindsChar, SplitsAroundMatch}
 use Rattle.std.proofs.lemmas.Bool.{eqb-true, eqb-false}
 use Rattle.std.proofs.lemmas.List.{nil_from_length}
-use Rattle.zk_path.specs.Paths.{HasNoSlash, IsStem, joined, text_of}
+use Rattle.zk_path.specs.Paths.{HasNoSlash, IsStem, joined, text_of, IsTextOf}
 use Rattle.zk_path.specs.View.{components}
 use Rattle.zk_path.proofs.Components.{components-joined}
 use Rattle.zk_path.proofs.Cuts.{rsplit_parts}
 use Rattle.zk_path.proofs.Judged.{plain, stem_plain}
 use Rattle.zk_path.proofs.Values.{is_held, cut_at, no_cut}
 use Rattle.tree_state.specs.Nodes.{Path}
-use Rattle.tree_state.specs.Commands.{IsTextOf}
 use Rattle.tree_state.proofs.texts.parts.Goals as goal
 
 -- a text that holds these components, each after a slash

@@ -42,6 +42,9 @@ returns-in-Ping-clause-ok c = nothing_is _ _ _ c.in-Ping.is (nothing_added _)
 pub returns-in-Close-clause-ok : goal.returns-in-Close-clause-ok
 returns-in-Close-clause-ok c = nothing_is _ _ _ c.in-Close.is (nothing_added _)
 
+pub returns-in-Create2-clause-ok : goal.returns-in-Create2-clause-ok
+returns-in-Create2-clause-ok c = put_is _ _ _ _ _ c.in-Create2.is (fields_put create_request _ _ _ _ c.write-in-Create2.ensures)
+
 pub returns-in-Multi-clause-ok : goal.returns-in-Multi-clause-ok
 returns-in-Multi-clause-ok c = put_is _ _ _ _ _ c.in-Multi.is (operations_put _ _ _ _ (rw c.as_slice.ensures at c.put_ops.ensures.ok))
 

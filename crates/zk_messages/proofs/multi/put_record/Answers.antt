@@ -11,3 +11,6 @@ returns-in-SetContent c = rw c.in-SetContent.is c.write-in-SetContent.ensures
 
 pub returns-in-Check : goal.returns-in-Check
 returns-in-Check c = rw c.in-Check.is c.write-in-Check.ensures
+
+pub returns-in-Create2 : goal.returns-in-Create2
+returns-in-Create2 c = rw c.in-Create2.is c.write-in-Create2.ensures

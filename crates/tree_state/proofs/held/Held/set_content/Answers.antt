@@ -1,7 +1,7 @@
 use Rattle.std.proofs.Common.{ℕ, List, true, false, refl, sym, subst, rules, w32, w64}
 use Rattle.std.specs.Int.RustNames.{FitsSigned}
 use Rattle.std.proofs.lemmas.Int.{to_z-of_z}
-use Rattle.tree_state.specs.Commands.{IsTextOf}
+use Rattle.zk_path.specs.Paths.{IsTextOf}
 use Rattle.tree_state.proofs.Changed.{tested, memory_out, content_none, content_wrong, content_last, content_set}
 use Rattle.tree_state.proofs.held.Held.set_content.Goals as goal
 

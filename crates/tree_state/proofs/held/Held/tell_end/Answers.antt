@@ -1,9 +1,9 @@
 use Rattle.std.proofs.Common.{◌≡◌, ℕ, ℤ, pos, Some, ◌∷◌, ◌+◌, String, Global, List, drop, arith, sym, ap, subst, ◌∙◌, w64}
 use Rattle.std.proofs.lemmas.Int.{to_z-of_z}
 use Rattle.std.proofs.lemmas.List.{drop_more, drop_all}
+use Rattle.zk_path.specs.Paths.{IsTextOf}
 use Rattle.tree_state.specs.Nodes.{ephemerals}
 use Rattle.tree_state.specs.State.{session_at, on_children, told}
-use Rattle.tree_state.specs.Commands.{IsTextOf}
 use Rattle.tree_state.specs.Changes.{events_to}
 use Rattle.tree_state.specs.Sessions.{OwnTexts}
 use Rattle.tree_state.proofs.GoneEvents.{AreTelling, far_owned, none_told, one_told, tells_new, tells_old, all_are_told}
