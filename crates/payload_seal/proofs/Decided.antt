@@ -14,11 +14,12 @@ use Rattle.gcm_mode.proofs.Counting.{length-text_under}
 use Rattle.zk_path.specs.Paths.{text_of}
 use Rattle.zk_path.specs.Numbers.{EndsInTenDigits, IsStemOf}
 use Rattle.path_seal.specs.Names.{IsCut}
-use Rattle.payload_seal.specs.declared.opening.Flaw.TheVariants.{Short, BadTag, BadFlag, WrongPath}
+use Rattle.payload_seal.specs.declared.opening.Flaw.TheVariants.{Short, UnknownEpoch, BadTag, BadFlag, WrongPath}
+use Rattle.payload_seal.specs.Keys.{epoch_of, key_of}
 use Rattle.payload_seal.specs.Payload.{flag_of, content_of, OpensTo, IsDigestFor, Accepts}
 use Rattle.payload_seal.specs.Flaws.{IsPlain, IsBadFlag, is_sequential}
 use Rattle.payload_seal.specs.Laws.{IsJudged}
-use Rattle.payload_seal.proofs.Parts.{same_backs, right_tag, cut_size, one_stem_of}
+use Rattle.payload_seal.proofs.Parts.{same_backs, right_tag, cut_size, cut_epoch, one_stem_of}
 
 -- ---- what can be decided
 
@@ -121,10 +122,10 @@ dec_digest p true digest = digest_by p digest (dec_stem p)
 dec_bad : (flag : ℕ) (content : List ℕ) → Dec (IsBadFlag flag content)
 dec_bad flag content = dec_either (dec_lt 3 flag) (dec_both (dec_le 2 flag) (dec_not (dec_same content [])))
 
-accept : {key y plain digest content : List ℕ} {p : List (List ℕ)} {flag : ℕ} (s : Bool) (d : Option (List ℕ)) → OpensTo key y plain → IsPlain plain flag digest content → flag ≡ flag_of s d → content ≡ content_of d → IsDigestFor p s digest → Accepts key p y d
-accept {key} {y} {plain} {digest} {content} {p} {flag} s d o parts f c h =
+accept : {keys p : List (List ℕ)} {y plain digest content : List ℕ} {flag : ℕ} (s : Bool) (d : Option (List ℕ)) → OpensTo keys y plain → IsPlain plain flag digest content → flag ≡ flag_of s d → content ≡ content_of d → IsDigestFor p s digest → Accepts keys p y d
+accept {keys} {p} {y} {plain} {digest} {content} {flag} s d o parts f c h =
     let whole : plain ≡ flag_of s d ∷ (digest ++ content_of d) = parts.whole ∙ (λ i. f i ∷ (digest ++ c i)) in
-    record { sequential = s; digest = digest; opened = subst (λ (l : List ℕ). OpensTo key y l) whole o; for_path = h }
+    record { sequential = s; digest = digest; opened = subst (λ (l : List ℕ). OpensTo keys y l) whole o; for_path = h }
 
 null_content : {flag : ℕ} {content : List ℕ} → (IsBadFlag flag content → ⊥) → 2 ≤ flag → Dec (content ≡ []) → content ≡ []
 null_content {flag} {content} good h (yes e) = e
@@ -137,36 +138,37 @@ four (suc (suc zero)) h = inr (inr (inl refl))
 four (suc (suc (suc zero))) h = inr (inr (inr refl))
 four (suc (suc (suc (suc n)))) h = absurd (h (omega arith))
 
-by_flag : {key y plain digest content : List ℕ} {p : List (List ℕ)} {flag : ℕ} → OpensTo key y plain → IsPlain plain flag digest content → (IsBadFlag flag content → ⊥) → IsDigestFor p (is_sequential flag) digest → (flag ≡ 0) ⊎ (flag ≡ 1) ⊎ (flag ≡ 2) ⊎ (flag ≡ 3) → (d : Option (List ℕ)) × Accepts key p y d
-by_flag {key} {y} {plain} {digest} {content} {p} {flag} o parts good h (inl e) =
+by_flag : {keys p : List (List ℕ)} {y plain digest content : List ℕ} {flag : ℕ} → OpensTo keys y plain → IsPlain plain flag digest content → (IsBadFlag flag content → ⊥) → IsDigestFor p (is_sequential flag) digest → (flag ≡ 0) ⊎ (flag ≡ 1) ⊎ (flag ≡ 2) ⊎ (flag ≡ 3) → (d : Option (List ℕ)) × Accepts keys p y d
+by_flag {keys} {p} {y} {plain} {digest} {content} {flag} o parts good h (inl e) =
     (Some content, accept false (Some content) o parts e refl (subst (λ (n : ℕ). IsDigestFor p (is_sequential n) digest) e h))
-by_flag {key} {y} {plain} {digest} {content} {p} {flag} o parts good h (inr (inl e)) =
+by_flag {keys} {p} {y} {plain} {digest} {content} {flag} o parts good h (inr (inl e)) =
     (Some content, accept true (Some content) o parts e refl (subst (λ (n : ℕ). IsDigestFor p (is_sequential n) digest) e h))
-by_flag {key} {y} {plain} {digest} {content} {p} {flag} o parts good h (inr (inr (inl e))) =
+by_flag {keys} {p} {y} {plain} {digest} {content} {flag} o parts good h (inr (inr (inl e))) =
     (None, accept false None o parts e (null_content good (omega (arith, e)) (dec_same content [])) (subst (λ (n : ℕ). IsDigestFor p (is_sequential n) digest) e h))
-by_flag {key} {y} {plain} {digest} {content} {p} {flag} o parts good h (inr (inr (inr e))) =
+by_flag {keys} {p} {y} {plain} {digest} {content} {flag} o parts good h (inr (inr (inr e))) =
     (None, accept true None o parts e (null_content good (omega (arith, e)) (dec_same content [])) (subst (λ (n : ℕ). IsDigestFor p (is_sequential n) digest) e h))
 
 -- ---- the whole payload
 
-from_parts : {key y plain digest content : List ℕ} {p : List (List ℕ)} {flag : ℕ} → OpensTo key y plain → IsPlain plain flag digest content → Dec (IsBadFlag flag content) → Dec (IsDigestFor p (is_sequential flag) digest) → IsJudged key p y
-from_parts {key} {y} {plain} {digest} {content} {p} {flag} o parts (yes b) right =
+from_parts : {keys p : List (List ℕ)} {y plain digest content : List ℕ} {flag : ℕ} → OpensTo keys y plain → IsPlain plain flag digest content → Dec (IsBadFlag flag content) → Dec (IsDigestFor p (is_sequential flag) digest) → IsJudged keys p y
+from_parts {keys} {p} {y} {plain} {digest} {content} {flag} o parts (yes b) right =
     inr (BadFlag flag, record { digest = digest; content = content; plain = plain; opened = o; parts = parts; bad = b })
-from_parts {key} {y} {plain} {digest} {content} {p} {flag} o parts (no g) (no w) =
+from_parts {keys} {p} {y} {plain} {digest} {content} {flag} o parts (no g) (no w) =
     inr (WrongPath digest (sha256 (text_of p)), record { flag = flag; content = content; plain = plain; opened = o; parts = parts; good = g; other = w; is_asked = refl })
-from_parts {key} {y} {plain} {digest} {content} {p} {flag} o parts (no g) (yes r) =
+from_parts {keys} {p} {y} {plain} {digest} {content} {flag} o parts (no g) (yes r) =
     inl (by_flag o parts g r (four flag (λ h. g (inl h))))
 
-from_plain : (key : List ℕ) (p : List (List ℕ)) (y plain : List ℕ) → OpensTo key y plain → 33 ≤ length plain → IsJudged key p y
-from_plain key p y [] o h = absurd (omega (arith, h))
-from_plain key p y (flag ∷ rest) o h =
+from_plain : (keys p : List (List ℕ)) (y plain : List ℕ) → OpensTo keys y plain → 33 ≤ length plain → IsJudged keys p y
+from_plain keys p y [] o h = absurd (omega (arith, h))
+from_plain keys p y (flag ∷ rest) o h =
     let parts : IsPlain (flag ∷ rest) flag (take 32 rest) (drop 32 rest) = record { whole = ap (λ (l : List ℕ). flag ∷ l) (sym (take-append-drop 32 rest)); size = length-take-le 32 rest (omega (arith, h)) } in
     from_parts o parts (dec_bad flag (drop 32 rest)) (dec_digest p (is_sequential flag) (take 32 rest))
 
-from_tag : (key : List ℕ) (p : List (List ℕ)) (y iv text tag : List ℕ) → 61 ≤ length y → IsCut y iv text tag → Dec (tag ≡ gcm_tag key iv [] text) → IsJudged key p y
-from_tag key p y iv text tag long cut (no f) = inr (BadTag, record { long = long; closed = λ plain o. f (right_tag cut o) })
-from_tag key p y iv text tag long cut (yes e) =
-    from_plain key p y (text_under key iv text) (record { iv = iv; text = text; tag = tag; parts = cut; right = e; opened = refl }) (omega (arith, cut_size cut, length-text_under key iv text, long))
+from_tag : (keys p : List (List ℕ)) (y iv text tag : List ℕ) → 61 ≤ length y → epoch_of y < length keys → IsCut y iv text tag → Dec (tag ≡ gcm_tag (key_of keys (epoch_of iv)) iv [] text) → IsJudged keys p y
+from_tag keys p y iv text tag long known cut (no f) = inr (BadTag, record { long = long; known = known; closed = λ plain o. f (right_tag cut o) })
+from_tag keys p y iv text tag long known cut (yes e) =
+    let key : List ℕ = key_of keys (epoch_of iv) in
+    from_plain keys p y (text_under key iv text) (record { iv = iv; text = text; tag = tag; parts = cut; known = subst (λ (n : ℕ). n < length keys) (cut_epoch cut) known; right = e; opened = refl }) (omega (arith, cut_size cut, length-text_under key iv text, long))
 
 cut_of : (y : List ℕ) → 61 ≤ length y → IsCut y (take 12 y) (take (length y - 28) (drop 12 y)) (drop (length y - 28) (drop 12 y))
 cut_of y long = record {
@@ -175,10 +177,15 @@ cut_of y long = record {
   tag_size = omega (arith, length-drop (length y - 28) (drop 12 y), length-drop 12 y, long);
 }
 
-from_size : (key : List ℕ) (p : List (List ℕ)) (y : List ℕ) → (length y < 61) ⊎ (61 ≤ length y) → IsJudged key p y
-from_size key p y (inl h) = inr (Short (length y), (refl, h))
-from_size key p y (inr h) =
-    from_tag key p y _ _ _ h (cut_of y h) (dec_same (drop (length y - 28) (drop 12 y)) (gcm_tag key (take 12 y) [] (take (length y - 28) (drop 12 y))))
+from_epoch : (keys p : List (List ℕ)) (y : List ℕ) → 61 ≤ length y → (epoch_of y < length keys) ⊎ (length keys ≤ epoch_of y) → IsJudged keys p y
+from_epoch keys p y long (inr h) = inr (UnknownEpoch (epoch_of y), record { long = long; is_first = refl; unknown = h })
+from_epoch keys p y long (inl h) =
+    let iv : List ℕ = take 12 y in
+    from_tag keys p y _ _ _ long h (cut_of y long) (dec_same (drop (length y - 28) (drop 12 y)) (gcm_tag (key_of keys (epoch_of iv)) iv [] (take (length y - 28) (drop 12 y))))
 
-pub judged : (key : List ℕ) (p : List (List ℕ)) (y : List ℕ) → IsJudged key p y
-judged key p y = from_size key p y (cases_lt (length y) 61)
+from_size : (keys p : List (List ℕ)) (y : List ℕ) → (length y < 61) ⊎ (61 ≤ length y) → IsJudged keys p y
+from_size keys p y (inl h) = inr (Short (length y), (refl, h))
+from_size keys p y (inr h) = from_epoch keys p y h (cases_lt (epoch_of y) (length keys))
+
+pub judged : (keys p : List (List ℕ)) (y : List ℕ) → IsJudged keys p y
+judged keys p y = from_size keys p y (cases_lt (length y) 61)

@@ -8,12 +8,13 @@ use Rattle.zk_path.specs.Paths.{text_of}
 use Rattle.zk_path.specs.Numbers.{numbered, IsStemOf}
 use Rattle.zk_path.proofs.Numbered.{is_numbered}
 use Rattle.payload_seal.specs.declared.opening.Flaw.{Flaw}
-use Rattle.payload_seal.specs.declared.opening.Flaw.TheVariants.{Short, BadTag, BadFlag, WrongPath}
+use Rattle.payload_seal.specs.declared.opening.Flaw.TheVariants.{Short, UnknownEpoch, BadTag, BadFlag, WrongPath}
+use Rattle.payload_seal.specs.Keys.{epoch_of, key_of}
 use Rattle.payload_seal.specs.Payload.{sequential_bit, flag_of, content_of, plain_payload, SealData, OpensTo, IsDigestFor, Accepts}
-use Rattle.payload_seal.specs.Flaws.{IsPlain, IsBadFlag, is_sequential, HasBadFlag, HasWrongPath, FlawOf}
+use Rattle.payload_seal.specs.Flaws.{IsPlain, IsBadFlag, is_sequential, HasUnknownEpoch, HasBadFlag, HasWrongPath, FlawOf}
 use Rattle.payload_seal.specs.Laws.{IsJudgedOnce, IsAcceptedWhenSealed, IsAcceptedWhenNumbered}
 use Rattle.payload_seal.proofs.Decided.{judged}
-use Rattle.payload_seal.proofs.Parts.{one_plain, opened_size, plain_size, one_reading, digest_size}
+use Rattle.payload_seal.proofs.Parts.{one_plain, opened_epoch, opened_size, plain_size, one_reading, digest_size}
 
 -- ---- flags
 
@@ -47,80 +48,94 @@ bad_as {f} {g} {x} {y} e h b = subst (λ (n : ℕ). IsBadFlag n y) e (subst (λ 
 
 -- ---- accepted payloads
 
-pub accepted_plain : {key y : List ℕ} {p : List (List ℕ)} {d : Option (List ℕ)} (a : Accepts key p y d) → IsPlain (flag_of a.sequential d ∷ (a.digest ++ content_of d)) (flag_of a.sequential d) a.digest (content_of d)
-accepted_plain {key} {y} {p} {d} a = record { whole = refl; size = digest_size p a.sequential a.digest a.for_path }
+pub accepted_plain : {keys p : List (List ℕ)} {y : List ℕ} {d : Option (List ℕ)} (a : Accepts keys p y d) → IsPlain (flag_of a.sequential d ∷ (a.digest ++ content_of d)) (flag_of a.sequential d) a.digest (content_of d)
+accepted_plain {keys} {p} {y} {d} a = record { whole = refl; size = digest_size p a.sequential a.digest a.for_path }
 
-content_once : (key : List ℕ) (p : List (List ℕ)) (y : List ℕ) (d e : Option (List ℕ)) → Accepts key p y d → Accepts key p y e → d ≡ e
-content_once key p y d e a b =
+content_once : (keys p : List (List ℕ)) (y : List ℕ) (d e : Option (List ℕ)) → Accepts keys p y d → Accepts keys p y e → d ≡ e
+content_once keys p y d e a b =
     let same = one_reading (one_plain a.opened b.opened) (accepted_plain a) (accepted_plain b) in
     one_content_of a.sequential b.sequential d e same.flag_same same.content_same
 
-long : {key y plain digest content : List ℕ} {flag : ℕ} → OpensTo key y plain → IsPlain plain flag digest content → 61 ≤ length y
-long {key} {y} {plain} {digest} {content} {flag} h k = omega (arith, opened_size h, plain_size k)
+long : {keys : List (List ℕ)} {y plain digest content : List ℕ} {flag : ℕ} → OpensTo keys y plain → IsPlain plain flag digest content → 61 ≤ length y
+long {keys} {y} {plain} {digest} {content} {flag} h k = omega (arith, opened_size h, plain_size k)
 
 too_short : (y : List ℕ) {n : ℕ} → (n ≡ length y) × (n < 61) → 61 ≤ length y → ⊥
 too_short y {n} h k = omega (arith, h.0, h.1, k)
 
-accepted_not_bad : {key y : List ℕ} {p : List (List ℕ)} {d : Option (List ℕ)} {flag : ℕ} → Accepts key p y d → HasBadFlag key y flag → ⊥
-accepted_not_bad {key} {y} {p} {d} {flag} a h =
+known_not_unknown : {keys : List (List ℕ)} {y : List ℕ} {e : ℕ} → epoch_of y < length keys → HasUnknownEpoch keys y e → ⊥
+known_not_unknown {keys} {y} {e} known h = omega (arith, known, h.is_first, h.unknown)
+
+accepted_not_bad : {keys p : List (List ℕ)} {y : List ℕ} {d : Option (List ℕ)} {flag : ℕ} → Accepts keys p y d → HasBadFlag keys y flag → ⊥
+accepted_not_bad {keys} {p} {y} {d} {flag} a h =
     let same = one_reading (one_plain h.opened a.opened) h.parts (accepted_plain a) in
     good_flag a.sequential d (bad_as same.flag_same same.content_same h.bad)
 
-accepted_not_wrong : {key y : List ℕ} {p : List (List ℕ)} {d : Option (List ℕ)} {digest asked : List ℕ} → Accepts key p y d → HasWrongPath key p y digest asked → ⊥
-accepted_not_wrong {key} {y} {p} {d} {digest} {asked} a h =
+accepted_not_wrong : {keys p : List (List ℕ)} {y : List ℕ} {d : Option (List ℕ)} {digest asked : List ℕ} → Accepts keys p y d → HasWrongPath keys p y digest asked → ⊥
+accepted_not_wrong {keys} {p} {y} {d} {digest} {asked} a h =
     let same = one_reading (one_plain a.opened h.opened) (accepted_plain a) h.parts in
     let bit : a.sequential ≡ is_sequential h.flag = sym (sequential_is a.sequential d) ∙ ap is_sequential same.flag_same in
     h.other (subst (λ (s : Bool). IsDigestFor p s digest) bit (subst (λ (l : List ℕ). IsDigestFor p a.sequential l) same.digest_same a.for_path))
 
-never_both : (key : List ℕ) (p : List (List ℕ)) (y : List ℕ) (d : Option (List ℕ)) (f : Flaw) → Accepts key p y d → FlawOf key p y f → ⊥
-never_both key p y d (Short n) a h = too_short y h (long a.opened (accepted_plain a))
-never_both key p y d BadTag a h = h.closed _ a.opened
-never_both key p y d (BadFlag g) a h = accepted_not_bad a h
-never_both key p y d (WrongPath e x) a h = accepted_not_wrong a h
+never_both : (keys p : List (List ℕ)) (y : List ℕ) (d : Option (List ℕ)) (f : Flaw) → Accepts keys p y d → FlawOf keys p y f → ⊥
+never_both keys p y d (Short n) a h = too_short y h (long a.opened (accepted_plain a))
+never_both keys p y d (UnknownEpoch e) a h = absurd (known_not_unknown (opened_epoch a.opened) h)
+never_both keys p y d BadTag a h = h.closed _ a.opened
+never_both keys p y d (BadFlag g) a h = accepted_not_bad a h
+never_both keys p y d (WrongPath e x) a h = accepted_not_wrong a h
 
 -- ---- flaws
 
-bad_not_wrong : {key y : List ℕ} {p : List (List ℕ)} {flag : ℕ} {digest asked : List ℕ} → HasBadFlag key y flag → HasWrongPath key p y digest asked → ⊥
-bad_not_wrong {key} {y} {p} {flag} {digest} {asked} h k =
+bad_not_wrong : {keys p : List (List ℕ)} {y : List ℕ} {flag : ℕ} {digest asked : List ℕ} → HasBadFlag keys y flag → HasWrongPath keys p y digest asked → ⊥
+bad_not_wrong {keys} {p} {y} {flag} {digest} {asked} h k =
     let same = one_reading (one_plain h.opened k.opened) h.parts k.parts in
     k.good (bad_as same.flag_same same.content_same h.bad)
 
-same_flags : {key y : List ℕ} {f g : ℕ} → HasBadFlag key y f → HasBadFlag key y g → f ≡ g
-same_flags {key} {y} {f} {g} h k = let same = one_reading (one_plain h.opened k.opened) h.parts k.parts in same.flag_same
+same_flags : {keys : List (List ℕ)} {y : List ℕ} {f g : ℕ} → HasBadFlag keys y f → HasBadFlag keys y g → f ≡ g
+same_flags {keys} {y} {f} {g} h k = let same = one_reading (one_plain h.opened k.opened) h.parts k.parts in same.flag_same
 
-same_paths : {key y : List ℕ} {p : List (List ℕ)} {d e a b : List ℕ} → HasWrongPath key p y d a → HasWrongPath key p y e b → WrongPath d a ≡ WrongPath e b
-same_paths {key} {y} {p} {d} {e} {a} {b} h k =
+same_paths : {keys p : List (List ℕ)} {y : List ℕ} {d e a b : List ℕ} → HasWrongPath keys p y d a → HasWrongPath keys p y e b → WrongPath d a ≡ WrongPath e b
+same_paths {keys} {p} {y} {d} {e} {a} {b} h k =
     let same = one_reading (one_plain h.opened k.opened) h.parts k.parts in
     let digest = same.digest_same in
     let asked : a ≡ b = h.is_asked ∙ sym k.is_asked in
     (λ i. WrongPath (digest i) (asked i))
 
-flaw_once : (key : List ℕ) (p : List (List ℕ)) (y : List ℕ) (f g : Flaw) → FlawOf key p y f → FlawOf key p y g → f ≡ g
-flaw_once key p y (Short n) (Short m) h k = ap Short (h.0 ∙ sym k.0)
-flaw_once key p y (Short n) BadTag h k = absurd (too_short y h k.long)
-flaw_once key p y (Short n) (BadFlag g) h k = absurd (too_short y h (long k.opened k.parts))
-flaw_once key p y (Short n) (WrongPath e b) h k = absurd (too_short y h (long k.opened k.parts))
-flaw_once key p y BadTag (Short m) h k = absurd (too_short y k h.long)
-flaw_once key p y BadTag BadTag h k = refl
-flaw_once key p y BadTag (BadFlag g) h k = absurd (h.closed k.plain k.opened)
-flaw_once key p y BadTag (WrongPath e b) h k = absurd (h.closed k.plain k.opened)
-flaw_once key p y (BadFlag f) (Short m) h k = absurd (too_short y k (long h.opened h.parts))
-flaw_once key p y (BadFlag f) BadTag h k = absurd (k.closed h.plain h.opened)
-flaw_once key p y (BadFlag f) (BadFlag g) h k = ap BadFlag (same_flags h k)
-flaw_once key p y (BadFlag f) (WrongPath e b) h k = absurd (bad_not_wrong h k)
-flaw_once key p y (WrongPath d a) (Short m) h k = absurd (too_short y k (long h.opened h.parts))
-flaw_once key p y (WrongPath d a) BadTag h k = absurd (k.closed h.plain h.opened)
-flaw_once key p y (WrongPath d a) (BadFlag g) h k = absurd (bad_not_wrong k h)
-flaw_once key p y (WrongPath d a) (WrongPath e b) h k = same_paths h k
+flaw_once : (keys p : List (List ℕ)) (y : List ℕ) (f g : Flaw) → FlawOf keys p y f → FlawOf keys p y g → f ≡ g
+flaw_once keys p y (Short n) (Short m) h k = ap Short (h.0 ∙ sym k.0)
+flaw_once keys p y (Short n) (UnknownEpoch e) h k = absurd (too_short y h k.long)
+flaw_once keys p y (Short n) BadTag h k = absurd (too_short y h k.long)
+flaw_once keys p y (Short n) (BadFlag g) h k = absurd (too_short y h (long k.opened k.parts))
+flaw_once keys p y (Short n) (WrongPath e b) h k = absurd (too_short y h (long k.opened k.parts))
+flaw_once keys p y (UnknownEpoch e) (Short m) h k = absurd (too_short y k h.long)
+flaw_once keys p y (UnknownEpoch e) (UnknownEpoch g) h k = ap UnknownEpoch (h.is_first ∙ sym k.is_first)
+flaw_once keys p y (UnknownEpoch e) BadTag h k = absurd (known_not_unknown k.known h)
+flaw_once keys p y (UnknownEpoch e) (BadFlag g) h k = absurd (known_not_unknown (opened_epoch k.opened) h)
+flaw_once keys p y (UnknownEpoch e) (WrongPath d b) h k = absurd (known_not_unknown (opened_epoch k.opened) h)
+flaw_once keys p y BadTag (Short m) h k = absurd (too_short y k h.long)
+flaw_once keys p y BadTag (UnknownEpoch e) h k = absurd (known_not_unknown h.known k)
+flaw_once keys p y BadTag BadTag h k = refl
+flaw_once keys p y BadTag (BadFlag g) h k = absurd (h.closed k.plain k.opened)
+flaw_once keys p y BadTag (WrongPath e b) h k = absurd (h.closed k.plain k.opened)
+flaw_once keys p y (BadFlag f) (Short m) h k = absurd (too_short y k (long h.opened h.parts))
+flaw_once keys p y (BadFlag f) (UnknownEpoch e) h k = absurd (known_not_unknown (opened_epoch h.opened) k)
+flaw_once keys p y (BadFlag f) BadTag h k = absurd (k.closed h.plain h.opened)
+flaw_once keys p y (BadFlag f) (BadFlag g) h k = ap BadFlag (same_flags h k)
+flaw_once keys p y (BadFlag f) (WrongPath e b) h k = absurd (bad_not_wrong h k)
+flaw_once keys p y (WrongPath d a) (Short m) h k = absurd (too_short y k (long h.opened h.parts))
+flaw_once keys p y (WrongPath d a) (UnknownEpoch e) h k = absurd (known_not_unknown (opened_epoch h.opened) k)
+flaw_once keys p y (WrongPath d a) BadTag h k = absurd (k.closed h.plain h.opened)
+flaw_once keys p y (WrongPath d a) (BadFlag g) h k = absurd (bad_not_wrong k h)
+flaw_once keys p y (WrongPath d a) (WrongPath e b) h k = same_paths h k
 
 pub judged_once : IsJudgedOnce
 judged_once = record { one_of = judged; one_content = content_once; one_flaw = flaw_once; not_both = never_both }
 
 -- ---- sealed payloads
 
-sealed_opens : (key iv : List ℕ) (p : List (List ℕ)) (s : Bool) (d : Option (List ℕ)) → length iv ≡ 12 → OpensTo key (SealData key iv p s d) (flag_of s d ∷ (sha256 (text_of p) ++ content_of d))
+sealed_opens : (keys : List (List ℕ)) (iv : List ℕ) (p : List (List ℕ)) (s : Bool) (d : Option (List ℕ)) → length iv ≡ 12 → epoch_of iv < length keys → OpensTo keys (SealData keys iv p s d) (flag_of s d ∷ (sha256 (text_of p) ++ content_of d))
 unfolding SealData plain_payload
-sealed_opens key iv p s d len =
+sealed_opens keys iv p s d len known =
+    let key : List ℕ = key_of keys (epoch_of iv) in
     let plain : List ℕ = flag_of s d ∷ (sha256 (text_of p) ++ content_of d) in
     let text : List ℕ = text_under key iv plain in
     let tag : List ℕ = gcm_tag key iv [] text in
@@ -130,18 +145,19 @@ sealed_opens key iv p s d len =
       text = text;
       tag = tag;
       parts = record { whole = refl; iv_size = len; tag_size = size };
+      known = known;
       right = refl;
       opened = ((opens_exactly key iv [] plain text tag size).1 refl).1;
     }
 
 pub accepted_when_sealed : IsAcceptedWhenSealed
-accepted_when_sealed key iv p d len = record { sequential = false; digest = sha256 (text_of p); opened = sealed_opens key iv p false d len; for_path = refl }
+accepted_when_sealed keys iv p d len known = record { sequential = false; digest = sha256 (text_of p); opened = sealed_opens keys iv p false d len known; for_path = refl }
 
-for_stem : (key iv : List ℕ) (s p : List (List ℕ)) (d : Option (List ℕ)) → length iv ≡ 12 → IsStemOf p s → Accepts key p (SealData key iv s true d) d
-for_stem key iv s p d len h = record { sequential = true; digest = sha256 (text_of s); opened = sealed_opens key iv s true d len; for_path = (s, h, refl) }
+for_stem : (keys : List (List ℕ)) (iv : List ℕ) (s p : List (List ℕ)) (d : Option (List ℕ)) → length iv ≡ 12 → epoch_of iv < length keys → IsStemOf p s → Accepts keys p (SealData keys iv s true d) d
+for_stem keys iv s p d len known h = record { sequential = true; digest = sha256 (text_of s); opened = sealed_opens keys iv s true d len known; for_path = (s, h, refl) }
 
 pub accepted_when_numbered : IsAcceptedWhenNumbered
 accepted_when_numbered = record {
   any_digits = for_stem;
-  any_number = λ key iv s i d len h. for_stem key iv s (numbered s i) d len (is_numbered s i h).1;
+  any_number = λ keys iv s i d len known h. for_stem keys iv s (numbered s i) d len known (is_numbered s i h).1;
 }

@@ -1,4 +1,5 @@
 pub mod Parts
 pub mod Decided
+pub mod Later
 pub mod Opened
 pub mod Judged

@@ -9,6 +9,7 @@ use Rattle.gcm_mode.specs.Gcm.{Gcm}
 use Rattle.sha2.specs.Sha256.{sha256}
 use Rattle.zk_path.specs.Paths.{text_of}
 use Rattle.zk_path.specs.Numbers.{IsStemOf}
+use Rattle.payload_seal.specs.Keys.{epoch_of, key_of}
 use Rattle.payload_seal.specs.Payload.{flag_of, content_of, plain_payload, SealData, IsDigestFor}
 use Rattle.payload_seal.specs.Flaws.{IsPlain}
 use Rattle.payload_seal.proofs.Parts.{one_stem_of}
@@ -35,9 +36,9 @@ is_plain a b c d digest content p s o flag e f g h i j k =
     h ∙ ap (λ (l : List ℕ). l ++ content) (g ∙ ap (λ (l : List ℕ). l ++ digest) (f ∙ ap (λ (l : List ℕ). l ++ flag ∷ []) e))
     ∙ (λ n. i n ∷ (j n ++ k n))
 
-pub is_sealed : (key iv before payload plain used : List ℕ) (p : List (List ℕ)) (s : Bool) (o : Option (List ℕ)) → used ≡ key → before ≡ iv → payload ≡ before ++ Gcm used iv [] plain → plain ≡ plain_payload p s o → payload ≡ SealData key iv p s o
+pub is_sealed : (keys : List (List ℕ)) (iv before payload plain : List ℕ) (p : List (List ℕ)) (s : Bool) (o : Option (List ℕ)) → before ≡ iv → payload ≡ before ++ Gcm (key_of keys (epoch_of iv)) iv [] plain → plain ≡ plain_payload p s o → payload ≡ SealData keys iv p s o
 unfolding SealData
-is_sealed key iv before payload plain used p s o e f g h = g ∙ (λ i. f i ++ Gcm (e i) iv [] (h i))
+is_sealed keys iv before payload plain p s o f g h = g ∙ (λ i. f i ++ Gcm (key_of keys (epoch_of iv)) iv [] (h i))
 
 -- the digest of a path's stem
 pub of_stem : (p stem : List (List ℕ)) (s r : Bool) (found digest : List ℕ) → s ≡ true → IsStemOf p stem → found ≡ sha256 (text_of stem) → r ≡ bytes_eq found digest → IsTrue r ↔ IsDigestFor p s digest

@@ -19,6 +19,7 @@ pub struct Spent;
 /// It is not `Copy`: two copies would give the same IVs.
 #[derive(Debug, Drop)]
 pub struct IvSource {
+    epoch: u8,
     boot: u32,
     connection: u32,
     count: u64,
@@ -29,20 +30,20 @@ impl Model for IvSource {
 
     ghost Value = { Ivs };
 
-    ghost view = { λ s. record { boot = s.boot; connection = s.connection; count = s.count } };
+    ghost view = { λ s. record { epoch = s.epoch; boot = s.boot; connection = s.connection; count = s.count } };
 
-    ghost invariant = { λ s. AreIvs (record { boot = s.boot; connection = s.connection; count = s.count }) };
+    ghost invariant = { λ s. AreIvs (record { epoch = s.epoch; boot = s.boot; connection = s.connection; count = s.count }) };
 }
 
 // The IV of the payload with this number.
-fn iv_of(boot: u32, connection: u32, number: u32) -> [u8; 12]
-    ensures { result ≡ payload_iv boot connection number }
+fn iv_of(epoch: u8, boot: u32, connection: u32, number: u32) -> [u8; 12]
+    ensures { result ≡ payload_iv epoch boot connection number }
 {
     let boot = boot.to_be_bytes();
     let connection = connection.to_be_bytes();
     let number = number.to_be_bytes();
     [
-        0,
+        epoch,
         boot[1],
         boot[2],
         boot[3],
@@ -58,25 +59,34 @@ fn iv_of(boot: u32, connection: u32, number: u32) -> [u8; 12]
 }
 
 impl IvSource {
-    /// The source of a connection that has sealed nothing. Takes no memory.
-    pub fn new(boot: u32, connection: u32) -> IvSource
+    /// The source of a connection that has sealed nothing, for the keys with this greatest epoch.
+    /// Takes no memory.
+    pub fn new(epoch: u8, boot: u32, connection: u32) -> IvSource
         requires { boot < 2 ^ 24 }
-        ensures { result ≡ record { boot = boot; connection = connection; count = 0 } }
+        ensures { result ≡ record { epoch = epoch; boot = boot; connection = connection; count = 0 } }
     {
-        IvSource::starting(boot, connection, 0)
+        IvSource::starting(epoch, boot, connection, 0)
     }
 
     /// The source of a connection that has sealed `count` payloads. Takes no memory.
-    pub fn starting(boot: u32, connection: u32, count: u64) -> IvSource
+    pub fn starting(epoch: u8, boot: u32, connection: u32, count: u64) -> IvSource
         requires boot { boot < 2 ^ 24 }
         requires count { count ≤ 2 ^ 32 }
-        ensures { result ≡ record { boot = boot; connection = connection; count = count } }
+        ensures { result ≡ record { epoch = epoch; boot = boot; connection = connection; count = count } }
     {
         IvSource {
+            epoch,
             boot,
             connection,
             count,
         }
+    }
+
+    /// The epoch of the key that the IVs are for. Takes no memory.
+    pub fn epoch(&self) -> u8
+        ensures { result ≡ self.now.epoch }
+    {
+        self.epoch
     }
 
     /// The next IV. Takes no memory.
@@ -85,7 +95,7 @@ impl IvSource {
     ///
     /// [`Spent`] exactly after 4,294,967,296 payloads. Nothing changes then.
     pub fn next(&mut self) -> Result<[u8; 12], Spent>
-        ensures iv { IfOk result (λ iv. iv ≡ payload_iv self.old.boot self.old.connection self.old.count) }
+        ensures iv { IfOk result (λ iv. iv ≡ payload_iv self.old.epoch self.old.boot self.old.connection self.old.count) }
         ensures counted { OnOk result (self.new ≡ record self.old { count = self.old.count + 1 }) }
         ensures spent { IsErr result ↔ (self.old.count ≡ 2 ^ 32) }
         ensures unchanged { OnErr result (self.new ≡ self.old) }
@@ -93,7 +103,7 @@ impl IvSource {
         if self.count >= PAYLOADS {
             return Err(Spent);
         }
-        let iv = iv_of(self.boot, self.connection, self.count as u32);
+        let iv = iv_of(self.epoch, self.boot, self.connection, self.count as u32);
         self.count += 1;
         Ok(iv)
     }
@@ -105,9 +115,9 @@ impl IvSource {
     /// have sealed anything that leaves.
     pub fn ahead(&self, index: u64) -> [u8; 12]
         requires { self.now.count + index < 2 ^ 32 }
-        ensures { result ≡ payload_iv self.now.boot self.now.connection (self.now.count + index) }
+        ensures { result ≡ payload_iv self.now.epoch self.now.boot self.now.connection (self.now.count + index) }
     {
-        iv_of(self.boot, self.connection, (self.count + index) as u32)
+        iv_of(self.epoch, self.boot, self.connection, (self.count + index) as u32)
     }
 
     /// Takes so many IVs at once, which were looked at by [`IvSource::ahead`]. Takes no memory.

@@ -1,6 +1,7 @@
 //! Keys, and the files that hold them.
 
-ghost use Rattle.std.specs.Prelude.{◌≡◌, ◌↔◌, length, take, drop, IfOk, IfErr, IsOk};
+ghost use Rattle.std.specs.Prelude.{◌≡◌, ◌↔◌, ◌+◌, ◌*◌, ◌<◌, ◌≤◌, ℕ, [], ◌∷◌, ◌++◌, length, take, drop, IfOk, IfErr, IfSome, IsOk, IsNone};
+ghost use Rattle.payload_seal.specs.Keys.{IsKeyFileSize, key_of, keys_in, payload_keys};
 
 use crate::bytes::bytes_at;
 use aes_block::Key;
@@ -8,37 +9,108 @@ use path_seal::NameKeys;
 use std::marker::Model;
 use thiserror::Error;
 
-/// What payloads are sealed under: a key of 16 bytes, which is what contracts see of it.
+/// The bytes of a file of keys before those of the epochs from 1 on.
+const FIXED: usize = 64;
+
+/// How many epochs there are at most besides epoch 0.
+const LATER_EPOCHS: usize = 255;
+
+/// What payloads are sealed under: 1 to 256 keys of 16 bytes, one for each epoch from 0 on.
+/// Contracts see the list of the keys, that of epoch 0 first.
 ///
-/// There is no `Debug`: it would print the key.
+/// The key of the greatest epoch is kept ready for sealing, so that a payload costs no key
+/// schedule. There is no `Debug`: it would print the keys.
 #[derive(Clone, Copy)]
 pub struct PayloadKeys {
-    key: Key,
+    // from epoch 0 on, and zeros above the greatest one
+    places: [[u8; 16]; 256],
+    epoch: u8,
+    ready: Key,
 }
 
 impl Model for PayloadKeys {
-    ghost use Rattle.std.specs.Prelude.{ℕ, List};
+    ghost use Rattle.std.specs.Prelude.{◌-◌, ℕ, suc, List, length, take};
+    ghost use Rattle.std.proofs.Common.{sym};
+    ghost use Rattle.payload_seal.specs.Keys.{HoldsKeys, key_of, places_of};
+    ghost use Rattle.payload_seal.specs.Held.{held_epoch, held_ready};
 
-    ghost Value = { List ℕ };
+    ghost Value = { List (List ℕ) };
 
-    ghost view = { λ k. k.key };
+    ghost view = { λ k. take (suc k.epoch) k.places };
 
-    ghost inverse = { λ v. record { key = v } };
+    ghost invariant = { λ k. HoldsKeys k.places k.epoch k.ready };
+
+    ghost inverse = { λ v. record { places = places_of v; epoch = length v - 1; ready = key_of v (length v - 1) } };
+
+    ghost inverse_ok = { λ k h i. record {
+      places = sym h.filled i;
+      epoch = held_epoch h i;
+      ready = held_ready h i;
+    } };
 }
 
 impl PayloadKeys {
-    /// The keys with this payload key. Takes no memory.
+    /// The key of epoch 0 alone. Takes no memory.
     pub fn new(key: [u8; 16]) -> PayloadKeys
-        ensures { result ≡ key }
+        ensures { result ≡ key ∷ [] }
     {
-        PayloadKeys { key: Key::new(key) }
+        PayloadKeys::of_all(key, b"", 0)
     }
 
-    /// The key of the cipher.
-    pub(crate) fn key(&self) -> &Key
-        ensures { result.now ≡ self.now }
+    /// The keys with one of the next epoch besides. Takes no memory. None exactly where there are
+    /// 256 already.
+    pub fn with_next(self, key: [u8; 16]) -> Option<PayloadKeys>
+        ensures none { IsNone result ↔ (length self ≡ 256) }
+        ensures next { IfSome result (λ next. next ≡ self ++ key ∷ []) }
     {
-        &self.key
+        let epoch = self.epoch.checked_add(1)?;
+        let mut places = self.places;
+        places[epoch as usize] = key;
+        Some(PayloadKeys {
+            places,
+            epoch,
+            ready: Key::new(key),
+        })
+    }
+
+    /// The greatest epoch, under which payloads are sealed. Takes no memory.
+    pub fn epoch(&self) -> u8
+        ensures { result + 1 ≡ length self.now }
+    {
+        self.epoch
+    }
+
+    // The key of epoch 0, and those of the epochs after it, 16 bytes each.
+    fn of_all(first: [u8; 16], later: &[u8], count: usize) -> PayloadKeys
+        requires few { count ≤ 255 }
+        requires long { 16 * count ≤ length later.now }
+        ensures { result ≡ first ∷ keys_in later.now count }
+    {
+        let mut places = [[0; 16]; 256];
+        places[0] = first;
+        for n in 0..count {
+            places[n + 1] = bytes_at(later, 16 * n);
+        }
+        PayloadKeys {
+            places,
+            epoch: count as u8,
+            ready: Key::new(places[count]),
+        }
+    }
+
+    /// The key of the greatest epoch.
+    pub(crate) fn ready(&self) -> &Key
+        ensures { (epoch : ℕ) → length self.now ≡ epoch + 1 → result.now ≡ key_of self.now epoch }
+    {
+        &self.ready
+    }
+
+    /// The key of an epoch, made for this call.
+    pub(crate) fn made(&self, epoch: u8) -> Key
+        requires { epoch < length self.now }
+        ensures { result ≡ key_of self.now epoch }
+    {
+        Key::new(self.places[epoch as usize])
     }
 }
 
@@ -57,25 +129,29 @@ pub struct KeyMalformed {
     pub length: usize,
 }
 
-/// The keys of an entry, from a file of 64 bytes: the name key of 16, the payload key of 16, and
-/// the salt of 32. Takes no memory.
+/// The keys of an entry, from a file of 64 + 16 n bytes, with n from 0 to 255: the name key of 16,
+/// the payload key of epoch 0 of 16, the salt of 32, and then the payload keys of the epochs 1 to
+/// n, of 16 each. Takes no memory.
 ///
 /// # Errors
 ///
 /// [`KeyMalformed`] exactly where the file has another length.
 pub fn read_keys(file: &[u8]) -> Result<EntryKeys, KeyMalformed>
-    ensures ok { IsOk result ↔ (length file.now ≡ 64) }
+    ensures ok { IsOk result ↔ IsKeyFileSize (length file.now) }
     ensures name_key { IfOk result (λ keys. keys.names.key ≡ take 16 file.now) }
-    ensures payload_key { IfOk result (λ keys. keys.payloads ≡ take 16 (drop 16 file.now)) }
-    ensures salt { IfOk result (λ keys. keys.names.salt ≡ drop 32 file.now) }
+    ensures payload_keys { IfOk result (λ keys. (n : ℕ) → length file.now ≡ 64 + 16 * n
+        → keys.payloads ≡ payload_keys file.now n) }
+    ensures salt { IfOk result (λ keys. keys.names.salt ≡ take 32 (drop 32 file.now)) }
     ensures malformed { IfErr result (λ fault. fault.length ≡ length file.now) }
 {
-    if file.len() != 64 {
-        return Err(KeyMalformed { length: file.len() });
+    let length = file.len();
+    if length < FIXED || length > FIXED + 16 * LATER_EPOCHS || length % 16 != 0 {
+        return Err(KeyMalformed { length });
     }
+    let count = (length - FIXED) / 16;
     Ok(EntryKeys {
         names: NameKeys::new(bytes_at(file, 0), bytes_at(file, 32)),
-        payloads: PayloadKeys::new(bytes_at(file, 16)),
+        payloads: PayloadKeys::of_all(bytes_at(file, 16), &file[FIXED..], count),
     })
 }
 

@@ -2,7 +2,9 @@
 //! digest of its path, so that no payload is accepted for another path.
 //!
 //! The definitions are in `specs/`: `Payload.antt` says what a content is sealed to, when a payload
-//! is accepted for a path, and which flaw it has where it is not; `Ivs.antt` has the IVs. The crate
+//! is accepted for a path, and which flaw it has where it is not; `Keys.antt` has the keys, one for
+//! each epoch, and `Ivs.antt` the IVs. A payload is sealed under the key of the greatest epoch, and
+//! opened under the key of the epoch that it begins with. The crate
 //! stands on `gcm_mode` for the cipher, on `sha2` for the digests, on `zk_path` for paths and the
 //! stems that they number, and on `path_seal` for the keys of names, which share a file with those
 //! of payloads.
@@ -11,7 +13,7 @@
 //! file.
 #![tactic(auto)]
 
-ghost use Rattle.payload_seal.specs.Laws.{IsJudgedOnce, IsAcceptedWhenSealed, IsAcceptedWhenNumbered, HasOneIv};
+ghost use Rattle.payload_seal.specs.Laws.{IsJudgedOnce, IsAcceptedWhenSealed, IsAcceptedWhenNumbered, IsKeptByLaterKeys, HasOneIv};
 
 mod bytes;
 mod ivs;
@@ -44,7 +46,15 @@ pub fn accepted_when_numbered()
     ensures { IsAcceptedWhenNumbered }
 {}
 
-/// The law that no two payloads have one IV: it determines the boot, the connection and the count.
+/// The law that keys of later epochs change nothing for a payload: it is accepted with a content, or
+/// has a flaw, under more keys exactly where it is or does without them. So a payload that begins with
+/// 0 is accepted under a file of keys exactly where it is under the file's first 64 bytes.
+pub fn kept_by_later_keys()
+    ensures { IsKeptByLaterKeys }
+{}
+
+/// The law that no two payloads have one IV: it determines the epoch, the boot, the connection and
+/// the count.
 pub fn one_iv()
     ensures { HasOneIv }
 {}

@@ -1,15 +1,17 @@
 //! Opening a payload for the path that was asked.
 
-ghost use Rattle.std.specs.Prelude.{◌≡◌, ◌≤◌, ◌<◌, ◌↔◌, ◌^◌, ℕ, List, length, IfOk, IfErr, IfSome, IfNone, IsTrue, MatchOption};
-ghost use Rattle.zk_path.specs.Paths.{text_of};
+ghost use Rattle.std.specs.Prelude.{◌≡◌, ◌≤◌, ◌<◌, ◌↔◌, ◌^◌, ◌++◌, ℕ, List, [], Ok, true, length, take, IfOk, IfErr, IfSome, IfNone, IsTrue, MatchOption};
+ghost use Rattle.gcm_mode.specs.Gcm.{gcm_tag, text_under};
 ghost use Rattle.path_seal.specs.Names.{IsCut};
+ghost use Rattle.payload_seal.specs.Keys.{epoch_of, key_of};
 ghost use Rattle.payload_seal.specs.Payload.{OpensTo, IsDigestFor, Accepts};
 ghost use Rattle.payload_seal.specs.Flaws.{IsFlawIn};
 
 use crate::keys::PayloadKeys;
 use crate::plain::Plain;
 use crate::sealing::digest_of;
-use gcm_mode::unseal;
+use aes_block::Key;
+use gcm_mode::{GcmFault, unseal};
 use jute_core::{Bytes, Memory};
 use std::alloc::Global;
 use thiserror::Error;
@@ -26,7 +28,12 @@ pub enum Flaw {
     Short {
         length: u32,
     },
-    /// Its tag is not right.
+    /// Its first byte is this epoch, which is above the greatest of the keys.
+    #[error("no key of epoch {epoch}")]
+    UnknownEpoch {
+        epoch: u8,
+    },
+    /// Its tag is not right under the key of its epoch.
     #[error("the tag is not right")]
     BadTag,
     /// This flag is above 3, or says that the content is null though it is not empty.
@@ -74,9 +81,53 @@ fn parts_of(payload: &[u8]) -> Option<(&[u8; 12], &[u8], &[u8; 16])>
     Some((iv, text, tag))
 }
 
+// As `unseal`, without additional data, of a text that is short enough.
+fn unseal_short(
+    key: &Key,
+    iv: &[u8; 12],
+    text: &[u8],
+    tag: &[u8; 16],
+    into: &mut Vec<u8>,
+) -> Result<bool, Memory>
+    requires { length text.now ≤ 2 ^ 28 }
+    ensures tag { IfOk result
+        (λ right. IsTrue right ↔ (tag.now ≡ gcm_tag key.now iv.now [] text.now)) }
+    ensures ok { result ≡ Ok true
+        → into.new.items ≡ into.old.items ++ text_under key.now iv.now text.now }
+{
+    match unseal(key, iv, b"", text, tag, into) {
+        Ok(right) => Ok(right),
+        Err(GcmFault::Memory) => Err(Memory),
+        Err(GcmFault::TooLong { .. }) => unreachable!(),
+    }
+}
+
+// The same under the key whose epoch is the first byte of the IV.
+fn unseal_under(
+    keys: &PayloadKeys,
+    iv: &[u8; 12],
+    text: &[u8],
+    tag: &[u8; 16],
+    into: &mut Vec<u8>,
+) -> Result<bool, Memory>
+    requires known { epoch_of iv.now < length keys.now }
+    requires short { length text.now ≤ 2 ^ 28 }
+    ensures tag { let key = key_of keys.now (epoch_of iv.now) in IfOk result
+        (λ right. IsTrue right ↔ (tag.now ≡ gcm_tag key iv.now [] text.now)) }
+    ensures ok { let key = key_of keys.now (epoch_of iv.now) in result ≡ Ok true
+        → into.new.items ≡ into.old.items ++ text_under key iv.now text.now }
+{
+    if iv[0] == keys.epoch() {
+        unseal_short(keys.ready(), iv, text, tag, into)
+    } else {
+        unseal_short(&keys.made(iv[0]), iv, text, tag, into)
+    }
+}
+
 // The plain text of a payload. None exactly where its tag is not right.
 fn opened(alloc: Global, keys: &PayloadKeys, payload: &[u8]) -> Result<Option<Vec<u8>>, Memory>
-    requires { length payload.now ≤ 2 ^ 28 }
+    requires known { epoch_of payload.now < length keys.now }
+    requires short { length payload.now ≤ 2 ^ 28 }
     ensures some { IfOk result (λ found. IfSome found (λ plain. OpensTo keys.now payload.now plain.items)) }
     ensures none { IfOk result (λ found. IfNone found ((plain : List ℕ) → OpensTo keys.now payload.now plain → ⊥)) }
 {
@@ -84,11 +135,10 @@ fn opened(alloc: Global, keys: &PayloadKeys, payload: &[u8]) -> Result<Option<Ve
         return Ok(None);
     };
     let mut plain = Vec::new(alloc);
-    match unseal(keys.key(), iv, b"", text, tag, &mut plain) {
-        Ok(true) => Ok(Some(plain)),
-        Ok(false) => Ok(None),
-        // The ciphertext is not too long.
-        Err(_) => Err(Memory),
+    if unseal_under(keys, iv, text, tag, &mut plain)? {
+        Ok(Some(plain))
+    } else {
+        Ok(None)
     }
 }
 
@@ -107,10 +157,15 @@ fn is_digest_for(path: &Path, sequential: bool, digest: &[u8; 32]) -> Result<boo
 
 /// The content, or null, of a payload that is accepted for the path that was asked.
 ///
+/// The key is that of the epoch which is the payload's first byte. So keys of later epochs change
+/// nothing for a payload: one that begins with 0 is accepted, or has its flaw, exactly where it is or
+/// does under the key of epoch 0 alone, as a file of 64 bytes gives it
+/// ([`crate::kept_by_later_keys`]).
+///
 /// # Errors
 ///
 /// [`NotOpened::Flawed`] exactly where the payload is not accepted for the path, with the first
-/// flaw of [`Flaw`]: [`Flaw::Short`], [`Flaw::BadTag`], [`Flaw::BadFlag`], [`Flaw::WrongPath`].
+/// flaw of [`Flaw`]: [`Flaw::Short`], [`Flaw::UnknownEpoch`], [`Flaw::BadTag`], [`Flaw::BadFlag`], [`Flaw::WrongPath`].
 /// [`NotOpened::Memory`] for want of memory.
 pub fn open_data(
     alloc: Global,
@@ -121,10 +176,20 @@ pub fn open_data(
     requires { length payload.now ≤ 2 ^ 28 }
     ensures accepted { IfOk result (Accepts keys.now path.now payload.now) }
     ensures flawed { IfErr result (IsFlawIn keys.now path.now payload.now) }
+
+    // A payload of epoch 0 sees the first key alone.
+    ensures first_accepted { epoch_of payload.now ≡ 0
+        → IfOk result (Accepts (take 1 keys.now) path.now payload.now) }
+    ensures first_flawed { epoch_of payload.now ≡ 0
+        → IfErr result (IsFlawIn (take 1 keys.now) path.now payload.now) }
 {
     if payload.len() < OVERHEAD {
         let length = payload.len() as u32;
         return Err(NotOpened::Flawed(Flaw::Short { length }));
+    }
+    let epoch = payload[0];
+    if epoch > keys.epoch() {
+        return Err(NotOpened::Flawed(Flaw::UnknownEpoch { epoch }));
     }
     let Some(bytes) = opened(alloc, keys, payload)? else {
         return Err(NotOpened::Flawed(Flaw::BadTag));

@@ -1,13 +1,16 @@
 //! Sealing a content for a path.
 
-ghost use Rattle.std.specs.Prelude.{◌≡◌, ◌≤◌, ◌^◌, length, IfOk, IfSome};
+ghost use Rattle.std.specs.Prelude.{◌≡◌, ◌<◌, ◌≤◌, ◌^◌, ◌++◌, [], length, IfOk, IfSome, OnOk};
 ghost use Rattle.std.specs.Option.{option_copied};
 ghost use Rattle.sha2.specs.Sha256.{sha256};
+ghost use Rattle.gcm_mode.specs.Gcm.{Gcm};
 ghost use Rattle.zk_path.specs.Paths.{text_of};
+ghost use Rattle.payload_seal.specs.Keys.{epoch_of, key_of};
 ghost use Rattle.payload_seal.specs.Payload.{flag_of, plain_payload, SealData};
 
 use crate::keys::PayloadKeys;
-use gcm_mode::seal;
+use aes_block::Key;
+use gcm_mode::{GcmFault, seal};
 use jute_core::{Bytes, Memory};
 use sha2::{Digest, Sha256};
 use std::alloc::Global;
@@ -50,8 +53,40 @@ fn plain_payload(
     Ok(plain)
 }
 
+// As `seal`, without additional data, of a text that is short enough.
+fn seal_short(key: &Key, iv: &[u8; 12], plain: &[u8], into: &mut Vec<u8>) -> Result<(), Memory>
+    requires { length plain.now ≤ 2 ^ 28 }
+    ensures { OnOk result (into.new.items ≡ into.old.items ++ Gcm key.now iv.now [] plain.now) }
+{
+    match seal(key, iv, b"", plain, into) {
+        Ok(()) => Ok(()),
+        Err(GcmFault::Memory) => Err(Memory),
+        Err(GcmFault::TooLong { .. }) => unreachable!(),
+    }
+}
+
+// The same under the key whose epoch is the first byte of the IV.
+fn seal_under(
+    keys: &PayloadKeys,
+    iv: &[u8; 12],
+    plain: &[u8],
+    into: &mut Vec<u8>,
+) -> Result<(), Memory>
+    requires known { epoch_of iv.now < length keys.now }
+    requires short { length plain.now ≤ 2 ^ 28 }
+    ensures { let key = key_of keys.now (epoch_of iv.now) in
+        OnOk result (into.new.items ≡ into.old.items ++ Gcm key iv.now [] plain.now) }
+{
+    if iv[0] == keys.epoch() {
+        seal_short(keys.ready(), iv, plain, into)
+    } else {
+        seal_short(&keys.made(iv[0]), iv, plain, into)
+    }
+}
+
 /// The payload of a content, or of null, for a path, or for a stem where the node is sequential:
-/// 61 bytes more than the content has.
+/// 61 bytes more than the content has. It is sealed under the key whose epoch is the first byte of
+/// the IV; that of the greatest epoch is ready, and another one costs its schedule.
 ///
 /// The IV must not be used for another payload under the same keys, which is for the caller to see
 /// to: [`crate::IvSource`] gives each IV once.
@@ -63,15 +98,13 @@ pub fn seal_data(
     sequential: bool,
     content: Option<&[u8]>,
 ) -> Result<Bytes, Memory>
-    requires { IfSome content (λ bytes. length bytes.now ≤ 268435395) }
+    requires epoch { epoch_of iv < length keys.now }
+    requires short { IfSome content (λ bytes. length bytes.now ≤ 268435395) }
     ensures { IfOk result (λ payload. payload ≡ SealData keys.now iv path.now sequential (option_copied content.entry)) }
 {
     let plain = plain_payload(alloc, path, sequential, content)?;
     let mut payload = Vec::with_capacity(alloc, plain.len() + 28)?;
     payload.extend_from_slice(&iv)?;
-    match seal(keys.key(), &iv, b"", plain.as_slice(), &mut payload) {
-        Ok(()) => Ok(Bytes::of(payload)),
-        // The text is not too long.
-        Err(_) => Err(Memory),
-    }
+    seal_under(keys, &iv, plain.as_slice(), &mut payload)?;
+    Ok(Bytes::of(payload))
 }

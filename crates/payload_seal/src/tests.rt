@@ -186,10 +186,10 @@ fn payloads_of_other_paths_show_both_digests(rt: HostRuntime) -> Result<(), Fail
 
 #[test]
 fn ivs_are_spelled_high_byte_first_to_the_last(rt: HostRuntime) -> Result<(), Fail> {
-    let mut first = IvSource::new(0x01_0203, 0x0405_0607);
+    let mut first = IvSource::new(0, 0x01_0203, 0x0405_0607);
     assert!(rt; first.next()? == [0, 1, 2, 3, 4, 5, 6, 7, 0, 0, 0, 0]);
     assert!(rt; first.next()? == [0, 1, 2, 3, 4, 5, 6, 7, 0, 0, 0, 1]);
-    let mut last = IvSource::starting(0, 1, 4_294_967_295);
+    let mut last = IvSource::starting(0, 0, 1, 4_294_967_295);
     assert!(rt; last.next()? == [0, 0, 0, 0, 0, 0, 0, 1, 255, 255, 255, 255]);
     assert!(rt; last.next().is_err());
     assert!(rt; last.next().is_err());

@@ -1,5 +1,5 @@
 -- Answers whose Stat has a bad length, and lists of children.
-use Rattle.std.proofs.Common.{ℕ, ℤ, List, Option, Some, None}
+use Rattle.std.proofs.Common.{ℕ, ℤ, Bool, List, Option, Some, None}
 use Rattle.path_seal.specs.Sealed.{Keys}
 use Rattle.payload_seal.specs.declared.keys.EntryKeys.{EntryKeys}
 use Rattle.request_queue.specs.declared.asked.Asked.TheVariants as asks
@@ -11,6 +11,7 @@ use Rattle.reply_rewrite.specs.Admits.{IsCauseOf}
 use Rattle.reply_rewrite.specs.Caused.{IsCausedBy}
 use Rattle.reply_rewrite.proofs.OneRow.{good_list}
 use Rattle.reply_rewrite.specs.Children.{IsPlainList, IsListCause}
+use Rattle.reply_rewrite.specs.Names.{IsCreated}
 use Rattle.reply_rewrite.specs.Stats.{IsLengthCause, IsContentCause}
 use Rattle.reply_rewrite.specs.declared.finding.Cause.{Cause}
 use Rattle.reply_rewrite.specs.declared.finding.Cause.TheVariants as causes
@@ -46,6 +47,15 @@ acl_cause k path acls stored is c h = absurd h
 pub acl_caused : (k : EntryKeys) (path : List (List ℕ)) (acls : Option (List Acl)) (stored : Stat) (e : NotPlain) → IsCausedBy (IsLengthCause path stored) e → IsOpen acls → IsCausedBy (IsCauseOf k (asks.AclOf path) (outcomes.Acls acls stored)) e
 acl_caused k path acls stored e h is = caused_as (IsLengthCause path stored) (IsCauseOf k (asks.AclOf path) (outcomes.Acls acls stored)) e (acl_cause k path acls stored is) h
 
+create2_cause : (k : EntryKeys) (path : List (List ℕ)) (sequential : Bool) (text made : List ℕ) (stored : Stat) → IsCreated k.names path sequential text made → (c : Cause) → IsLengthCause path stored c → IsCauseOf k (asks.Create2 path sequential) (outcomes.Created2 text stored) c
+unfolding IsCauseOf
+create2_cause k path sequential text made stored is (causes.Length told) h = ((made, is), h)
+create2_cause k path sequential text made stored is c h = absurd h
+
+pub create2_caused : (k : EntryKeys) (path : List (List ℕ)) (sequential : Bool) (text made : List ℕ) (stored : Stat) (e : NotPlain) → IsCausedBy (IsLengthCause path stored) e → IsCreated k.names path sequential text made → IsCausedBy (IsCauseOf k (asks.Create2 path sequential) (outcomes.Created2 text stored)) e
+create2_caused k path sequential text made stored e h is =
+    caused_as (IsLengthCause path stored) (IsCauseOf k (asks.Create2 path sequential) (outcomes.Created2 text stored)) e (create2_cause k path sequential text made stored is) h
+
 children2_cause : (k : EntryKeys) (path : List (List ℕ)) (list names : Option (List (List ℕ))) (stored : Stat) → IsPlainList k.names path list names → (c : Cause) → IsLengthCause path stored c → IsCauseOf k (asks.Children2 path) (outcomes.Children2 list stored) c
 unfolding IsCauseOf
 children2_cause k path list names stored plain (causes.Length told) h = (good_list k.names path list names plain, h)
@@ -67,4 +77,4 @@ list_cause k path list stored c h = h
 pub list_caused : (k : EntryKeys) (path : List (List ℕ)) (list : Option (List (List ℕ))) (stored : Stat) (e : NotPlain) → IsCausedBy (IsListCause k.names path list) e → IsCausedBy (IsCauseOf k (asks.Children2 path) (outcomes.Children2 list stored)) e
 list_caused k path list stored e h = caused_as (IsListCause k.names path list) (IsCauseOf k (asks.Children2 path) (outcomes.Children2 list stored)) e (list_cause k path list stored) h
 
-pub ruleset answers = (stat_caused, content_caused, acl_caused, children2_caused, list_caused)
+pub ruleset answers = (stat_caused, content_caused, acl_caused, create2_caused, children2_caused, list_caused)

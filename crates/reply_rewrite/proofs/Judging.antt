@@ -34,20 +34,20 @@ stat_judged path stored = by_length (length_judged path stored.length)
     by_length (inl h) = inl (stat_with path stored h.0 h.1)
     by_length (inr f) = inr (record { is_told = refl; unfit = f })
 
-abbrev pub ContentOrCause : List ℕ → List (List ℕ) → Option (List ℕ) → Stat → Type 0
-ContentOrCause key path payload stored =
-    ((content : Option (List ℕ)) × (plain : Stat) × IsPlainContent key path payload stored content plain) ⊎ ((c : Cause) × IsContentCause key path payload stored c)
+abbrev pub ContentOrCause : List (List ℕ) → List (List ℕ) → Option (List ℕ) → Stat → Type 0
+ContentOrCause keys path payload stored =
+    ((content : Option (List ℕ)) × (plain : Stat) × IsPlainContent keys path payload stored content plain) ⊎ ((c : Cause) × IsContentCause keys path payload stored c)
 
-content_by_length : (key : List ℕ) (path : List (List ℕ)) (payload : Option (List ℕ)) (stored : Stat) (content : Option (List ℕ)) → Accepts key path (content_of payload) content → Dec (IsPlainLength path stored.length (pos (length (content_of content)))) → ContentOrCause key path payload stored
-content_by_length key path payload stored content h (yes fits) =
+content_by_length : (keys path : List (List ℕ)) (payload : Option (List ℕ)) (stored : Stat) (content : Option (List ℕ)) → Accepts keys path (content_of payload) content → Dec (IsPlainLength path stored.length (pos (length (content_of content)))) → ContentOrCause keys path payload stored
+content_by_length keys path payload stored content h (yes fits) =
     inl (content, record stored { length = pos (length (content_of content)) }, record { accepted = h; stat = record { plain_length = fits; same_rest = refl }; fits = refl })
-content_by_length key path payload stored content h (no f) = inr (causes.Length stored.length, record { content = content; accepted = h; is_told = refl; unfit = f })
+content_by_length keys path payload stored content h (no f) = inr (causes.Length stored.length, record { content = content; accepted = h; is_told = refl; unfit = f })
 
-pub content_judged : (key : List ℕ) (path : List (List ℕ)) (payload : Option (List ℕ)) (stored : Stat) → ContentOrCause key path payload stored
-content_judged key path payload stored = by_payload (judged_once.one_of key path (content_of payload))
+pub content_judged : (keys path : List (List ℕ)) (payload : Option (List ℕ)) (stored : Stat) → ContentOrCause keys path payload stored
+content_judged keys path payload stored = by_payload (judged_once.one_of keys path (content_of payload))
   where
-    by_payload : ((d : Option (List ℕ)) × Accepts key path (content_of payload) d) ⊎ ((f : Flaw) × HasFlaw key path payload f) → ContentOrCause key path payload stored
-    by_payload (inl h) = content_by_length key path payload stored h.0 h.1 (dec_length path stored.length (pos (length (content_of h.0))))
+    by_payload : ((d : Option (List ℕ)) × Accepts keys path (content_of payload) d) ⊎ ((f : Flaw) × HasFlaw keys path payload f) → ContentOrCause keys path payload stored
+    by_payload (inl h) = content_by_length keys path payload stored h.0 h.1 (dec_length path stored.length (pos (length (content_of h.0))))
     by_payload (inr h) = inr (causes.Payload h.0, h.1)
 
 -- ---- names of children
@@ -104,6 +104,12 @@ unfolding ResultOrCause IsPlainResult IsCauseAt IsOtherCreated
 created_result k i path sequential text (inl h) = inl (op_results.Created h.0, h.1)
 created_result k i path sequential text (inr f) = inr (causes.MultiCreated i, (refl, f))
 
+created2_result : (k : Keys) (i : ℕ) (path : List (List ℕ)) (sequential : Bool) (text : List ℕ) (stored : Stat) → ((plain : List ℕ) × IsCreated k path sequential text plain) ⊎ IsNotCreated k path sequential text → ((plain : Stat) × IsPlainStat path stored plain) ⊎ HasBadLength path stored stored.length → ResultOrCause k false i (ops.Create2 path sequential) (op_results.Created2 text stored)
+unfolding ResultOrCause IsPlainResult IsCauseAt IsOtherCreated IsOtherLength
+created2_result k i path sequential text stored (inr f) s = inr (causes.MultiCreated i, (refl, f))
+created2_result k i path sequential text stored (inl h) (inl s) = inl (op_results.Created2 h.0 s.0, (h.1, s.1))
+created2_result k i path sequential text stored (inl h) (inr bad) = inr (causes.MultiLength i, (refl, (h, bad.unfit)))
+
 changed_result : (k : Keys) (i : ℕ) (path : List (List ℕ)) (stored : Stat) → ((plain : ℤ) × IsPlainLength path stored.length plain) ⊎ ((plain : ℤ) → IsPlainLength path stored.length plain → ⊥) → ResultOrCause k false i (ops.SetContent path) (op_results.Changed stored)
 unfolding ResultOrCause IsPlainResult IsCauseAt IsOtherLength
 changed_result k i path stored (inl h) = let plain = stat_with path stored h.0 h.1 in inl (op_results.Changed plain.0, plain.1)
@@ -117,10 +123,12 @@ result_judged : (k : Keys) (failed : Bool) (i : ℕ) (op : AskedOp) (s : OpResul
 unfolding ResultOrCause IsPlainResult HasKind
 result_judged k true i op (op_results.Error code) = inl (op_results.Error code, refl)
 result_judged k true i op (op_results.Created text) = other_kind k true i op (op_results.Created text) (λ h. h)
+result_judged k true i op (op_results.Created2 text stored) = other_kind k true i op (op_results.Created2 text stored) (λ h. h)
 result_judged k true i op op_results.Deleted = other_kind k true i op op_results.Deleted (λ h. h)
 result_judged k true i op (op_results.Changed stored) = other_kind k true i op (op_results.Changed stored) (λ h. h)
 result_judged k true i op op_results.Checked = other_kind k true i op op_results.Checked (λ h. h)
 result_judged k false i (ops.Create path sequential) (op_results.Created text) = created_result k i path sequential text (created_judged k path sequential text)
+result_judged k false i (ops.Create2 path sequential) (op_results.Created2 text stored) = created2_result k i path sequential text stored (created_judged k path sequential text) (stat_judged path stored)
 result_judged k false i ops.Delete op_results.Deleted = inl (op_results.Deleted, tt)
 result_judged k false i (ops.SetContent path) (op_results.Changed stored) = changed_result k i path stored (length_judged path stored.length)
 result_judged k false i ops.Check op_results.Checked = inl (op_results.Checked, tt)

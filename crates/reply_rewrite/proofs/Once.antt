@@ -28,6 +28,9 @@ acls_pair d e a b f g = (λ i. outcomes.Acls (f i) (g i))
 children_pair : (d e : Option (List (List ℕ))) (a b : Stat) → d ≡ e → a ≡ b → outcomes.Children2 d a ≡ outcomes.Children2 e b
 children_pair d e a b f g = (λ i. outcomes.Children2 (f i) (g i))
 
+created2_pair : (x y : List ℕ) (a b : Stat) → x ≡ y → a ≡ b → outcomes.Created2 x a ≡ outcomes.Created2 y b
+created2_pair x y a b f g = (λ i. outcomes.Created2 (f i) (g i))
+
 one_plain : (k : EntryKeys) (asked : Asked) (stored a b : Outcome) → AreKeys k.names → IsPlain k asked stored a → IsPlain k asked stored b → a ≡ b
 unfolding IsPlain
 one_plain k asks.Empty outcomes.Empty outcomes.Empty outcomes.Empty keys x y = refl
@@ -36,6 +39,9 @@ one_plain k asks.Close outcomes.Empty outcomes.Empty outcomes.Empty keys x y = r
 one_plain k asks.Close outcomes.Empty outcomes.Empty b keys x y = absurd y
 one_plain k (asks.Create path sequential) (outcomes.Path text) (outcomes.Path a) (outcomes.Path b) keys x y = ap outcomes.Path (one_created k.names path sequential text a b keys x y)
 one_plain k (asks.Create path sequential) (outcomes.Path text) (outcomes.Path a) b keys x y = absurd y
+one_plain k (asks.Create2 path sequential) (outcomes.Created2 text stored) (outcomes.Created2 p a) (outcomes.Created2 q b) keys x y =
+    created2_pair p q a b (one_created k.names path sequential text p q keys x.0 y.0) (one_stat path stored a b x.1 y.1)
+one_plain k (asks.Create2 path sequential) (outcomes.Created2 text stored) (outcomes.Created2 p a) b keys x y = absurd y
 one_plain k (asks.StatOf path) (outcomes.Stat stored) (outcomes.Stat a) (outcomes.Stat b) keys x y = ap outcomes.Stat (one_stat path stored a b x y)
 one_plain k (asks.StatOf path) (outcomes.Stat stored) (outcomes.Stat a) b keys x y = absurd y
 one_plain k (asks.Content path) (outcomes.Content payload stored) (outcomes.Content d a) (outcomes.Content e b) keys x y =
@@ -95,6 +101,16 @@ create_causes k path sequential text causes.Created causes.Created x y = refl
 create_causes k path sequential text causes.Created d x y = absurd y
 create_causes k path sequential text c d x y = absurd x
 
+create2_causes : (k : EntryKeys) (path : List (List ℕ)) (sequential : Bool) (text : List ℕ) (stored : Stat) (c d : Cause) → IsCauseOf k (asks.Create2 path sequential) (outcomes.Created2 text stored) c → IsCauseOf k (asks.Create2 path sequential) (outcomes.Created2 text stored) d → c ≡ d
+unfolding IsCauseOf
+create2_causes k path sequential text stored causes.Created causes.Created x y = refl
+create2_causes k path sequential text stored causes.Created (causes.Length b) x y = absurd (created_or_not k.names path sequential text y.0.0 y.0.1 x)
+create2_causes k path sequential text stored causes.Created d x y = absurd y
+create2_causes k path sequential text stored (causes.Length a) causes.Created x y = absurd (created_or_not k.names path sequential text x.0.0 x.0.1 y)
+create2_causes k path sequential text stored (causes.Length a) (causes.Length b) x y = ap causes.Length (x.1.is_told ∙ sym y.1.is_told)
+create2_causes k path sequential text stored (causes.Length a) d x y = absurd y
+create2_causes k path sequential text stored c d x y = absurd x
+
 sync_causes : (k : EntryKeys) (path : List (List ℕ)) (text : List ℕ) (c d : Cause) → IsCauseOf k (asks.SyncOf path) (outcomes.Path text) c → IsCauseOf k (asks.SyncOf path) (outcomes.Path text) d → c ≡ d
 unfolding IsCauseOf
 sync_causes k path text causes.SyncPath causes.SyncPath x y = refl
@@ -104,6 +120,7 @@ sync_causes k path text c d x y = absurd x
 one_cause : (k : EntryKeys) (asked : Asked) (stored : Outcome) (c d : Cause) → IsCauseOf k asked stored c → IsCauseOf k asked stored d → c ≡ d
 unfolding IsCauseOf
 one_cause k (asks.Create path sequential) (outcomes.Path text) c d x y = create_causes k path sequential text c d x y
+one_cause k (asks.Create2 path sequential) (outcomes.Created2 text stored) c d x y = create2_causes k path sequential text stored c d x y
 one_cause k (asks.StatOf path) (outcomes.Stat stored) c d x y = stat_causes k path stored c d x y
 one_cause k (asks.Content path) (outcomes.Content payload stored) c d x y = content_causes k path payload stored c d x y
 one_cause k (asks.AclOf path) (outcomes.Acls acls stored) c d x y = acl_causes k path acls stored c d x y
@@ -119,6 +136,9 @@ plain_or_cause : (k : EntryKeys) (asked : Asked) (stored told : Outcome) (c : Ca
 unfolding IsPlain IsCauseOf
 plain_or_cause k (asks.Create path sequential) (outcomes.Path text) (outcomes.Path plain) causes.Created x y = created_or_not k.names path sequential text plain x y
 plain_or_cause k (asks.Create path sequential) (outcomes.Path text) (outcomes.Path plain) c x y = y
+plain_or_cause k (asks.Create2 path sequential) (outcomes.Created2 text stored) (outcomes.Created2 made plain) causes.Created x y = created_or_not k.names path sequential text made x.0 y
+plain_or_cause k (asks.Create2 path sequential) (outcomes.Created2 text stored) (outcomes.Created2 made plain) (causes.Length told) x y = stat_or_bad path stored plain told x.1 y.1
+plain_or_cause k (asks.Create2 path sequential) (outcomes.Created2 text stored) (outcomes.Created2 made plain) c x y = y
 plain_or_cause k (asks.StatOf path) (outcomes.Stat stored) (outcomes.Stat plain) (causes.Length told) x y = stat_or_bad path stored plain told x y
 plain_or_cause k (asks.StatOf path) (outcomes.Stat stored) (outcomes.Stat plain) c x y = y
 plain_or_cause k (asks.Content path) (outcomes.Content payload stored) (outcomes.Content content plain) (causes.Payload flaw) x y = content_or_flaw k.payloads path payload content flaw x.accepted y

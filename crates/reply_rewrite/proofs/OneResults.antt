@@ -5,6 +5,7 @@ use Rattle.request_queue.specs.declared.asked.AskedOp.{AskedOp}
 use Rattle.request_queue.specs.declared.asked.AskedOp.TheVariants as ops
 use Rattle.zk_messages.specs.declared.reply.OpResult.{OpResult}
 use Rattle.zk_messages.specs.declared.reply.OpResult.TheVariants as op_results
+use Rattle.zk_records.specs.declared.stat.Stat.{Stat}
 use Rattle.reply_rewrite.proofs.OneRow.{one_created, created_or_not, one_stat}
 use Rattle.reply_rewrite.specs.Results.{is_failed, HasKind, IsPlainResult, ArePlainResults, IsOtherCreated, IsOtherLength, IsCauseAt, IsFirstCause, IsResultsCause}
 use Rattle.reply_rewrite.specs.declared.finding.Cause.{Cause}
@@ -15,10 +16,16 @@ unfolding IsPlainResult
 failed_result k op (op_results.Error code) a b x y = x ∙ sym y
 failed_result k op s a b x y = absurd x
 
+created2_pair : (x y : List ℕ) (a b : Stat) → x ≡ y → a ≡ b → op_results.Created2 x a ≡ op_results.Created2 y b
+created2_pair x y a b f g = (λ i. op_results.Created2 (f i) (g i))
+
 done_result : (k : Keys) (op : AskedOp) (s a b : OpResult) → AreKeys k → IsPlainResult k false op s a → IsPlainResult k false op s b → a ≡ b
 unfolding IsPlainResult
 done_result k (ops.Create path sequential) (op_results.Created text) (op_results.Created a) (op_results.Created b) keys x y = ap op_results.Created (one_created k path sequential text a b keys x y)
 done_result k (ops.Create path sequential) (op_results.Created text) (op_results.Created a) b keys x y = absurd y
+done_result k (ops.Create2 path sequential) (op_results.Created2 text stored) (op_results.Created2 p a) (op_results.Created2 q b) keys x y =
+    created2_pair p q a b (one_created k path sequential text p q keys x.0 y.0) (one_stat path stored a b x.1 y.1)
+done_result k (ops.Create2 path sequential) (op_results.Created2 text stored) (op_results.Created2 p a) b keys x y = absurd y
 done_result k ops.Delete op_results.Deleted op_results.Deleted op_results.Deleted keys x y = refl
 done_result k ops.Delete op_results.Deleted op_results.Deleted b keys x y = absurd y
 done_result k (ops.SetContent path) (op_results.Changed stored) (op_results.Changed a) (op_results.Changed b) keys x y = ap op_results.Changed (one_stat path stored a b x y)
@@ -59,31 +66,35 @@ kind_of_created : (k : Keys) (failed : Bool) (op : AskedOp) (s : OpResult) → I
 unfolding IsOtherCreated HasKind
 kind_of_created k true op s h = absurd h
 kind_of_created k false (ops.Create path sequential) (op_results.Created text) h = tt
+kind_of_created k false (ops.Create2 path sequential) (op_results.Created2 text stored) h = tt
 kind_of_created k false op s h = absurd h
 
-kind_of_length : (failed : Bool) (op : AskedOp) (s : OpResult) → IsOtherLength failed op s → HasKind failed op s
+kind_of_length : (k : Keys) (failed : Bool) (op : AskedOp) (s : OpResult) → IsOtherLength k failed op s → HasKind failed op s
 unfolding IsOtherLength HasKind
-kind_of_length true op s h = absurd h
-kind_of_length false (ops.SetContent path) (op_results.Changed stored) h = tt
-kind_of_length false op s h = absurd h
+kind_of_length k true op s h = absurd h
+kind_of_length k false (ops.Create2 path sequential) (op_results.Created2 text stored) h = tt
+kind_of_length k false (ops.SetContent path) (op_results.Changed stored) h = tt
+kind_of_length k false op s h = absurd h
 
-created_or_length : (k : Keys) (failed : Bool) (op : AskedOp) (s : OpResult) → IsOtherCreated k failed op s → IsOtherLength failed op s → ⊥
+created_or_length : (k : Keys) (failed : Bool) (op : AskedOp) (s : OpResult) → IsOtherCreated k failed op s → IsOtherLength k failed op s → ⊥
 unfolding IsOtherCreated IsOtherLength
 created_or_length k true op s x y = x
 created_or_length k false (ops.Create path sequential) s x y = y
+created_or_length k false (ops.Create2 path sequential) (op_results.Created2 text stored) x y = created_or_not k path sequential text y.0.0 y.0.1 x
+created_or_length k false (ops.Create2 path sequential) s x y = y
 created_or_length k false op s x y = x
 
 one_cause_at : (k : Keys) (failed : Bool) (i : ℕ) (op : AskedOp) (s : OpResult) (c d : Cause) → IsCauseAt k failed i op s c → IsCauseAt k failed i op s d → c ≡ d
 unfolding IsCauseAt
 one_cause_at k failed i op s (causes.MultiKind a) (causes.MultiKind b) x y = ap causes.MultiKind (x.0 ∙ sym y.0)
 one_cause_at k failed i op s (causes.MultiKind a) (causes.MultiCreated b) x y = absurd (x.1 (kind_of_created k failed op s y.1))
-one_cause_at k failed i op s (causes.MultiKind a) (causes.MultiLength b) x y = absurd (x.1 (kind_of_length failed op s y.1))
+one_cause_at k failed i op s (causes.MultiKind a) (causes.MultiLength b) x y = absurd (x.1 (kind_of_length k failed op s y.1))
 one_cause_at k failed i op s (causes.MultiKind a) d x y = absurd y
 one_cause_at k failed i op s (causes.MultiCreated a) (causes.MultiKind b) x y = absurd (y.1 (kind_of_created k failed op s x.1))
 one_cause_at k failed i op s (causes.MultiCreated a) (causes.MultiCreated b) x y = ap causes.MultiCreated (x.0 ∙ sym y.0)
 one_cause_at k failed i op s (causes.MultiCreated a) (causes.MultiLength b) x y = absurd (created_or_length k failed op s x.1 y.1)
 one_cause_at k failed i op s (causes.MultiCreated a) d x y = absurd y
-one_cause_at k failed i op s (causes.MultiLength a) (causes.MultiKind b) x y = absurd (y.1 (kind_of_length failed op s x.1))
+one_cause_at k failed i op s (causes.MultiLength a) (causes.MultiKind b) x y = absurd (y.1 (kind_of_length k failed op s x.1))
 one_cause_at k failed i op s (causes.MultiLength a) (causes.MultiCreated b) x y = absurd (created_or_length k failed op s y.1 x.1)
 one_cause_at k failed i op s (causes.MultiLength a) (causes.MultiLength b) x y = ap causes.MultiLength (x.0 ∙ sym y.0)
 one_cause_at k failed i op s (causes.MultiLength a) d x y = absurd y
@@ -94,6 +105,7 @@ unfolding IsPlainResult HasKind
 kind_of_plain k true op (op_results.Error code) p x = tt
 kind_of_plain k true op s p x = absurd x
 kind_of_plain k false (ops.Create path sequential) (op_results.Created text) p x = tt
+kind_of_plain k false (ops.Create2 path sequential) (op_results.Created2 text stored) p x = tt
 kind_of_plain k false ops.Delete op_results.Deleted p x = tt
 kind_of_plain k false (ops.SetContent path) (op_results.Changed stored) p x = tt
 kind_of_plain k false ops.Check op_results.Checked p x = tt
@@ -104,11 +116,15 @@ unfolding IsPlainResult IsOtherCreated
 plain_or_created k true op s p x y = y
 plain_or_created k false (ops.Create path sequential) (op_results.Created text) (op_results.Created plain) x y = created_or_not k path sequential text plain x y
 plain_or_created k false (ops.Create path sequential) (op_results.Created text) p x y = x
+plain_or_created k false (ops.Create2 path sequential) (op_results.Created2 text stored) (op_results.Created2 made plain) x y = created_or_not k path sequential text made x.0 y
+plain_or_created k false (ops.Create2 path sequential) (op_results.Created2 text stored) p x y = x
 plain_or_created k false op s p x y = y
 
-plain_or_length : (k : Keys) (failed : Bool) (op : AskedOp) (s p : OpResult) → IsPlainResult k failed op s p → IsOtherLength failed op s → ⊥
+plain_or_length : (k : Keys) (failed : Bool) (op : AskedOp) (s p : OpResult) → IsPlainResult k failed op s p → IsOtherLength k failed op s → ⊥
 unfolding IsPlainResult IsOtherLength
 plain_or_length k true op s p x y = y
+plain_or_length k false (ops.Create2 path sequential) (op_results.Created2 text stored) (op_results.Created2 made plain) x y = y.1 plain.length x.1.plain_length
+plain_or_length k false (ops.Create2 path sequential) (op_results.Created2 text stored) p x y = x
 plain_or_length k false (ops.SetContent path) (op_results.Changed stored) (op_results.Changed plain) x y = y plain.length x.plain_length
 plain_or_length k false (ops.SetContent path) (op_results.Changed stored) p x y = x
 plain_or_length k false op s p x y = y

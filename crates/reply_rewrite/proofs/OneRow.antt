@@ -42,15 +42,15 @@ stat_or_bad path stored a told x bad = bad.unfit a.length x.plain_length
 
 -- ---- contents
 
-pub one_content : (key : List ℕ) (path : List (List ℕ)) (payload : List ℕ) (d e : Option (List ℕ)) → Accepts key path payload d → Accepts key path payload e → d ≡ e
+pub one_content : (keys path : List (List ℕ)) (payload : List ℕ) (d e : Option (List ℕ)) → Accepts keys path payload d → Accepts keys path payload e → d ≡ e
 one_content = judged_once.one_content
 
-pub content_or_flaw : (key : List ℕ) (path : List (List ℕ)) (payload : Option (List ℕ)) (d : Option (List ℕ)) (f : Flaw) → Accepts key path (content_of payload) d → HasFlaw key path payload f → ⊥
-content_or_flaw key path payload d f x y = judged_once.not_both key path (content_of payload) d f x y
+pub content_or_flaw : (keys path : List (List ℕ)) (payload : Option (List ℕ)) (d : Option (List ℕ)) (f : Flaw) → Accepts keys path (content_of payload) d → HasFlaw keys path payload f → ⊥
+content_or_flaw keys path payload d f x y = judged_once.not_both keys path (content_of payload) d f x y
 
-pub content_or_other : (key : List ℕ) (path : List (List ℕ)) (payload : Option (List ℕ)) (stored : Stat) (content : Option (List ℕ)) (plain : Stat) (told : ℤ) → IsPlainContent key path payload stored content plain → HasOtherLength key path payload stored told → ⊥
-content_or_other key path payload stored content plain told x other =
-    let same = one_content key path (content_of payload) content other.content x.accepted other.accepted in
+pub content_or_other : (keys path : List (List ℕ)) (payload : Option (List ℕ)) (stored : Stat) (content : Option (List ℕ)) (plain : Stat) (told : ℤ) → IsPlainContent keys path payload stored content plain → HasOtherLength keys path payload stored told → ⊥
+content_or_other keys path payload stored content plain told x other =
+    let same = one_content keys path (content_of payload) content other.content x.accepted other.accepted in
     other.unfit (subst (λ (z : ℤ). IsPlainLength path stored.length z) (x.fits ∙ ap (λ (d : Option (List ℕ)). pos (length (content_of d))) same) x.stat.plain_length)
 
 -- ---- names of children

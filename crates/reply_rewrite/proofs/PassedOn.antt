@@ -39,6 +39,7 @@ unfolding IsPlain
 plain_shaped k asks.Empty outcomes.Empty outcomes.Empty h = tt
 plain_shaped k asks.Close outcomes.Empty outcomes.Empty h = tt
 plain_shaped k (asks.Create path sequential) (outcomes.Path text) (outcomes.Path plain) h = tt
+plain_shaped k (asks.Create2 path sequential) (outcomes.Created2 text stored) (outcomes.Created2 made plain) h = tt
 plain_shaped k (asks.StatOf path) (outcomes.Stat stored) (outcomes.Stat plain) h = tt
 plain_shaped k (asks.Content path) (outcomes.Content payload stored) (outcomes.Content content plain) h = tt
 plain_shaped k (asks.AclOf path) (outcomes.Acls acls stored) (outcomes.Acls same plain) h = tt
@@ -75,8 +76,8 @@ created_short k asked sequential text plain h l = omega (arith, l, ap length h.s
 synced_short : (k : Keys) (path : List (List ℕ)) (text plain : List ℕ) → IsSynced k path text plain → length text < 2 ^ 31 → length plain < 2 ^ 31
 synced_short k path text plain h l = omega (arith, l, ap length h.spelled, ap length h.opened.1, path_shorter k path)
 
-accepted_shorter : (key : List ℕ) (path : List (List ℕ)) (payload : List ℕ) (content : Option (List ℕ)) → Accepts key path payload content → length (content_of content) ≤ length payload
-accepted_shorter key path payload content h =
+accepted_shorter : (keys path : List (List ℕ)) (payload : List ℕ) (content : Option (List ℕ)) → Accepts keys path payload content → length (content_of content) ≤ length payload
+accepted_shorter keys path payload content h =
     let one_more : length (h.digest ++ content_of content) < length payload = omega (arith, opened_size h.opened) in
     omega (arith, one_more, length-append h.digest (content_of content))
 
@@ -84,9 +85,9 @@ payload_short : (payload : Option (List ℕ)) → IfSome payload (λ b. length b
 payload_short None h = omega arith
 payload_short (Some bytes) h = h
 
-content_short : (key : List ℕ) (path : List (List ℕ)) (payload content : Option (List ℕ)) → Accepts key path (content_of payload) content → IfSome payload (λ b. length b < 2 ^ 31) → IfSome content (λ b. length b < 2 ^ 31)
-content_short key path payload None h l = tt
-content_short key path payload (Some bytes) h l = omega (arith, accepted_shorter key path (content_of payload) (Some bytes) h, payload_short payload l)
+content_short : (keys path : List (List ℕ)) (payload content : Option (List ℕ)) → Accepts keys path (content_of payload) content → IfSome payload (λ b. length b < 2 ^ 31) → IfSome content (λ b. length b < 2 ^ 31)
+content_short keys path payload None h l = tt
+content_short keys path payload (Some bytes) h l = omega (arith, accepted_shorter keys path (content_of payload) (Some bytes) h, payload_short payload l)
 
 all_of : (P : List ℕ → Type 0) (xs : List (List ℕ)) → ((q : List ℕ) → IsOneOf q xs → P q) → All P xs
 all_of P [] f = All-nil P
@@ -112,6 +113,7 @@ unfolding IsPlainResult
 result_short k true op (op_results.Error code) p h l = subst IsShortResult (sym h) tt
 result_short k true op s p h l = absurd h
 result_short k false (ops.Create path sequential) (op_results.Created text) (op_results.Created plain) h l = created_short k path sequential text plain h l
+result_short k false (ops.Create2 path sequential) (op_results.Created2 text stored) (op_results.Created2 made plain) h l = created_short k path sequential text made h.0 l
 result_short k false ops.Delete op_results.Deleted op_results.Deleted h l = tt
 result_short k false (ops.SetContent path) (op_results.Changed stored) (op_results.Changed plain) h l = tt
 result_short k false ops.Check op_results.Checked op_results.Checked h l = tt
@@ -132,6 +134,7 @@ unfolding IsPlain
 plain_short k asks.Empty outcomes.Empty outcomes.Empty h l = tt
 plain_short k asks.Close outcomes.Empty outcomes.Empty h l = tt
 plain_short k (asks.Create path sequential) (outcomes.Path text) (outcomes.Path plain) h l = created_short k.names path sequential text plain h l
+plain_short k (asks.Create2 path sequential) (outcomes.Created2 text stored) (outcomes.Created2 made plain) h l = created_short k.names path sequential text made h.0 l
 plain_short k (asks.StatOf path) (outcomes.Stat stored) (outcomes.Stat plain) h l = tt
 plain_short k (asks.Content path) (outcomes.Content payload stored) (outcomes.Content content plain) h l = content_short k.payloads path payload content h.accepted l
 plain_short k (asks.AclOf path) (outcomes.Acls acls stored) (outcomes.Acls same plain) h l = subst (λ a. IsShortOutcome (outcomes.Acls a plain)) (sym h.1) l

@@ -41,6 +41,12 @@ unfolding IsAnswered IsPlain IsCauseOf
 answered_sync k path text (yes h) = inl (outcomes.Path (text_of path), record { opened = h; spelled = refl })
 answered_sync k path text (no f) = inr (causes.SyncPath, f)
 
+answered_create2 : (k : EntryKeys) (path : List (List ℕ)) (sequential : Bool) (text : List ℕ) (stored : Stat) → ((plain : List ℕ) × IsCreated k.names path sequential text plain) ⊎ IsNotCreated k.names path sequential text → ((plain : Stat) × IsPlainStat path stored plain) ⊎ HasBadLength path stored stored.length → IsAnswered k (asks.Create2 path sequential) (outcomes.Created2 text stored)
+unfolding IsAnswered IsPlain IsCauseOf
+answered_create2 k path sequential text stored (inr f) s = inr (causes.Created, f)
+answered_create2 k path sequential text stored (inl h) (inl s) = inl (outcomes.Created2 h.0 s.0, (h.1, s.1))
+answered_create2 k path sequential text stored (inl h) (inr bad) = inr (causes.Length stored.length, (h, bad))
+
 answered_stat : (k : EntryKeys) (path : List (List ℕ)) (stored : Stat) → ((plain : Stat) × IsPlainStat path stored plain) ⊎ HasBadLength path stored stored.length → IsAnswered k (asks.StatOf path) (outcomes.Stat stored)
 unfolding IsAnswered IsPlain IsCauseOf
 answered_stat k path stored (inl h) = inl (outcomes.Stat h.0, h.1)
@@ -84,6 +90,7 @@ stored_told k (asks.Refused code) stored keys h = (outcomes.Error code, None, (r
 stored_told k asks.Empty (outcomes.Error code) keys h = (outcomes.Error code, None, (refl, refl))
 stored_told k asks.Close (outcomes.Error code) keys h = (outcomes.Error code, None, (refl, refl))
 stored_told k (asks.Create path sequential) (outcomes.Error code) keys h = (outcomes.Error code, None, (refl, refl))
+stored_told k (asks.Create2 path sequential) (outcomes.Error code) keys h = (outcomes.Error code, None, (refl, refl))
 stored_told k (asks.StatOf path) (outcomes.Error code) keys h = (outcomes.Error code, None, (refl, refl))
 stored_told k (asks.Content path) (outcomes.Error code) keys h = (outcomes.Error code, None, (refl, refl))
 stored_told k (asks.AclOf path) (outcomes.Error code) keys h = (outcomes.Error code, None, (refl, refl))
@@ -94,6 +101,7 @@ stored_told k (asks.Multi ops) (outcomes.Error code) keys h = (outcomes.Error co
 stored_told k asks.Empty outcomes.Empty keys h = told_of k asks.Empty outcomes.Empty (inl (outcomes.Empty, tt))
 stored_told k asks.Close outcomes.Empty keys h = told_of k asks.Close outcomes.Empty (inl (outcomes.Empty, tt))
 stored_told k (asks.Create path sequential) (outcomes.Path text) keys h = told_of k (asks.Create path sequential) (outcomes.Path text) (answered_create k path sequential text (created_judged k.names path sequential text))
+stored_told k (asks.Create2 path sequential) (outcomes.Created2 text stored) keys h = told_of k (asks.Create2 path sequential) (outcomes.Created2 text stored) (answered_create2 k path sequential text stored (created_judged k.names path sequential text) (stat_judged path stored))
 stored_told k (asks.StatOf path) (outcomes.Stat stored) keys h = told_of k (asks.StatOf path) (outcomes.Stat stored) (answered_stat k path stored (stat_judged path stored))
 stored_told k (asks.Content path) (outcomes.Content payload stored) keys h = told_of k (asks.Content path) (outcomes.Content payload stored) (answered_content k path payload stored (content_judged k.payloads path payload stored))
 stored_told k (asks.AclOf path) (outcomes.Acls acls stored) keys h = told_of k (asks.AclOf path) (outcomes.Acls acls stored) (answered_acl k path acls stored (dec_open_acls acls) (stat_judged path stored))
@@ -106,4 +114,4 @@ stored_told k asked stored keys h = absurd h
 pub at_least_one : (k : EntryKeys) (asked : Asked) (stored : Reply) → AreKeys k.names → HasShape (shape_for asked) stored.outcome → (told : Reply) × (cause : Option Cause) × Admits k asked stored told cause
 at_least_one k asked stored keys h =
     let x = stored_told k asked stored.outcome keys h in
-    (record stored { outcome = x.0 }, x.1, record { same_xid = refl; same_zxid = refl; outcome = x.2 })
+    (record stored { outcome = x.0 }, x.1, record { shaped = h; same_xid = refl; same_zxid = refl; outcome = x.2 })

@@ -14,7 +14,8 @@ use Rattle.zk_messages.specs.declared.reply.Outcome.TheVariants as outcomes
 use Rattle.zk_messages.specs.declared.reply.Shape.{Shape}
 use Rattle.zk_messages.specs.declared.reply.Shape.TheVariants as shapes
 use Rattle.reply_rewrite.specs.Laws.{IsShortWhenRead}
-use Rattle.reply_rewrite.specs.Short.{IsShortText, AreShortNames, IsShortResult, HasShortParts}
+use Rattle.zk_messages.specs.Short.{IsShort}
+use Rattle.reply_rewrite.specs.Short.{AreShortNames, IsShortResult, HasShortParts}
 
 sized_within : (bytes b : List ℕ) → IsSized bytes b → length bytes ≤ length b
 sized_within bytes b h = omega (arith, ap length h.2, length-append h.0 bytes)
@@ -47,9 +48,9 @@ each_counted {V} R one (v ∷ vs) b h =
 names_within : (list : Option (List (List ℕ))) (b : List ℕ) → Spells (vector ustring) list b → length b ≤ 2 ^ 27 → AreShortNames list
 unfolding Spells
 names_within None b h l = tt
-names_within (Some names) b h l = (omega (arith, h.2.0), each_within (Spells ustring) IsShortText (λ t x s k. omega (arith, text_within t x s, k)) names h.1 h.3 (omega (arith, ap length h.4, length-append h.0 h.1, l)))
+names_within (Some names) b h l = (omega (arith, h.2.0), each_within (Spells ustring) IsShort (λ t x s k. omega (arith, text_within t x s, k)) names h.1 h.3 (omega (arith, ap length h.4, length-append h.0 h.1, l)))
 
-buffer_within : (bytes : Option (List ℕ)) (b : List ℕ) → Spells buffer bytes b → length b ≤ 2 ^ 27 → IfSome bytes IsShortText
+buffer_within : (bytes : Option (List ℕ)) (b : List ℕ) → Spells buffer bytes b → length b ≤ 2 ^ 27 → IfSome bytes IsShort
 unfolding Spells
 buffer_within None b h l = tt
 buffer_within (Some bytes) b h l = omega (arith, sized_within bytes b h, l)
@@ -57,6 +58,8 @@ buffer_within (Some bytes) b h l = omega (arith, sized_within bytes b h, l)
 result_within : (r : OpResult) (b : List ℕ) → SpellsResult r b → length b ≤ 2 ^ 27 → IsShortResult r
 unfolding SpellsResult Spells IsShortResult
 result_within (op_results.Created text) b h l = omega (arith, sized_within text h.1 h.3.0, ap length h.4, length-append h.0 h.1, l)
+result_within (op_results.Created2 text s) b h l =
+    omega (arith, sized_within text h.3.0 h.3.2.0, ap length h.3.4, length-append h.3.0 h.3.1, ap length h.4, length-append h.0 h.1, l)
 result_within op_results.Deleted b h l = tt
 result_within (op_results.Changed s) b h l = tt
 result_within op_results.Checked b h l = tt
@@ -69,6 +72,7 @@ any_header kind done err b h = let first : length h.0 ≡ 4 = ap length h.2.1 in
 result_long : (r : OpResult) (b : List ℕ) → SpellsResult r b → 0 < length b
 unfolding SpellsResult Spells
 result_long (op_results.Created text) b h = omega (arith, any_header (pos 1) false (pos 0) h.0 h.2, ap length h.4, length-append h.0 h.1)
+result_long (op_results.Created2 text s) b h = omega (arith, any_header (pos 15) false (pos 0) h.0 h.2, ap length h.4, length-append h.0 h.1)
 result_long op_results.Deleted b h = any_header (pos 2) false (pos 0) b h
 result_long (op_results.Changed s) b h = omega (arith, any_header (pos 5) false (pos 0) h.0 h.2, ap length h.4, length-append h.0 h.1)
 result_long op_results.Checked b h = any_header (pos 13) false (pos 0) b h
@@ -83,8 +87,11 @@ pair_first : (s t : Jute) (v : Value (pair s t)) (b : List ℕ) → Spells (pair
 unfolding Spells
 pair_first s t v b h l = (h.0, h.2, omega (arith, ap length h.4, length-append h.0 h.1, l))
 
-pair_content : (content : Option (List ℕ)) (v : Value stat) (b : List ℕ) → Spells (pair buffer stat) (content, v) b → length b ≤ 2 ^ 27 → IfSome content IsShortText
+pair_content : (content : Option (List ℕ)) (v : Value stat) (b : List ℕ) → Spells (pair buffer stat) (content, v) b → length b ≤ 2 ^ 27 → IfSome content IsShort
 pair_content content v b h l = let first = pair_first buffer stat (content, v) b h l in buffer_within content first.0 first.1 first.2
+
+pair_text : (text : List ℕ) (v : Value stat) (b : List ℕ) → Spells (pair ustring stat) (text, v) b → length b ≤ 2 ^ 27 → IsShort text
+pair_text text v b h l = let first = pair_first ustring stat (text, v) b h l in omega (arith, text_within text first.0 first.1, first.2)
 
 pair_names : (names : Option (List (List ℕ))) (v : Value stat) (b : List ℕ) → Spells (pair (vector ustring) stat) (names, v) b → length b ≤ 2 ^ 27 → AreShortNames names
 pair_names names v b h l = let first = pair_first (vector ustring) stat (names, v) b h l in names_within names first.0 first.1 first.2
@@ -94,6 +101,7 @@ unfolding SpellsOutcome SpellsForm HasShortParts
 outcome_within shape (outcomes.Error code) b h l = (tt, tt)
 outcome_within shapes.Empty outcomes.Empty b h l = (tt, tt)
 outcome_within shapes.Path (outcomes.Path text) b h l = (tt, omega (arith, text_within text b h, l))
+outcome_within shapes.Created2 (outcomes.Created2 text s) b h l = (tt, pair_text text (stat_fields s) b h l)
 outcome_within shapes.Stat (outcomes.Stat s) b h l = (tt, tt)
 outcome_within shapes.Content (outcomes.Content content s) b h l = (tt, pair_content content (stat_fields s) b h l)
 outcome_within shapes.Acls (outcomes.Acls list s) b h l = (tt, tt)

@@ -5,12 +5,14 @@ use Rattle.payload_seal.specs.declared.keys.EntryKeys.{EntryKeys}
 use Rattle.request_queue.specs.declared.asked.Asked.{Asked}
 use Rattle.request_queue.specs.declared.asked.Asked.TheVariants as asks
 use Rattle.zk_messages.specs.Refuses.{IsOpen}
+use Rattle.zk_messages.specs.Replies.{HasShape}
 use Rattle.zk_messages.specs.declared.reply.Outcome.{Outcome}
 use Rattle.zk_messages.specs.declared.reply.Outcome.TheVariants as outcomes
 use Rattle.zk_messages.specs.declared.reply.Reply.{Reply}
 use Rattle.reply_rewrite.specs.Children.{IsPlainList, IsListCause, IsGoodList}
-use Rattle.reply_rewrite.specs.Names.{IsCreated, IsNotCreated, IsSynced}
+use Rattle.reply_rewrite.specs.Names.{IsCreated, IsSomeCreated, IsNotCreated, IsSynced}
 use Rattle.reply_rewrite.specs.Results.{ArePlainResults, IsResultsCause, is_failed}
+use Rattle.reply_rewrite.specs.Shapes.{shape_for}
 use Rattle.reply_rewrite.specs.Stats.{IsPlainStat, HasBadLength, IsPlainContent, HasFlaw, HasOtherLength}
 use Rattle.reply_rewrite.specs.declared.finding.Cause.{Cause}
 use Rattle.reply_rewrite.specs.declared.finding.Cause.TheVariants as causes
@@ -34,6 +36,7 @@ unfoldable pub IsPlain : EntryKeys → Asked → Outcome → Outcome → Type 0
 IsPlain k asks.Empty outcomes.Empty outcomes.Empty = Unit {0}
 IsPlain k asks.Close outcomes.Empty outcomes.Empty = Unit {0}
 IsPlain k (asks.Create path sequential) (outcomes.Path text) (outcomes.Path plain) = IsCreated k.names path sequential text plain
+IsPlain k (asks.Create2 path sequential) (outcomes.Created2 text stored) (outcomes.Created2 plain stat) = IsCreated k.names path sequential text plain × IsPlainStat path stored stat
 IsPlain k (asks.StatOf path) (outcomes.Stat stored) (outcomes.Stat plain) = IsPlainStat path stored plain
 IsPlain k (asks.Content path) (outcomes.Content payload stored) (outcomes.Content content plain) = IsPlainContent k.payloads path payload stored content plain
 IsPlain k (asks.AclOf path) (outcomes.Acls acls stored) (outcomes.Acls same plain) = IsOpen acls × (same ≡ acls) × IsPlainStat path stored plain
@@ -46,6 +49,8 @@ IsPlain k asked stored plain = ⊥
 -- the first thing that is wrong with what the store answered
 unfoldable pub IsCauseOf : EntryKeys → Asked → Outcome → Cause → Type 0
 IsCauseOf k (asks.Create path sequential) (outcomes.Path text) causes.Created = IsNotCreated k.names path sequential text
+IsCauseOf k (asks.Create2 path sequential) (outcomes.Created2 text stored) causes.Created = IsNotCreated k.names path sequential text
+IsCauseOf k (asks.Create2 path sequential) (outcomes.Created2 text stored) (causes.Length told) = IsSomeCreated k.names path sequential text × HasBadLength path stored told
 IsCauseOf k (asks.StatOf path) (outcomes.Stat stored) (causes.Length told) = HasBadLength path stored told
 IsCauseOf k (asks.Content path) (outcomes.Content payload stored) (causes.Payload flaw) = HasFlaw k.payloads path payload flaw
 IsCauseOf k (asks.Content path) (outcomes.Content payload stored) (causes.Length told) = HasOtherLength k.payloads path payload stored told
@@ -73,8 +78,9 @@ unfoldable pub AdmitsOutcome : EntryKeys → Asked → Outcome → Outcome → O
 AdmitsOutcome k (asks.Refused code) stored told cause = (told ≡ outcomes.Error code) × (cause ≡ None)
 AdmitsOutcome k asked stored told cause = AdmitsStored k asked stored told cause
 
--- the reply that is passed on, and what was wrong with the store's
+-- the reply that is passed on, and what was wrong with the store's, which has the shape of an answer to the request
 pub record Admits (k : EntryKeys) (asked : Asked) (stored told : Reply) (cause : Option Cause) : Type 0 where
+  pub shaped : HasShape (shape_for asked) stored.outcome
   pub same_xid : told.xid ≡ stored.xid
   pub same_zxid : told.zxid ≡ stored.zxid
   pub outcome : AdmitsOutcome k asked stored.outcome told.outcome cause

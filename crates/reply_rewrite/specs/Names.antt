@@ -16,6 +16,10 @@ pub record IsCreated (k : Keys) (asked : List (List ℕ)) (sequential : Bool) (t
   pub made : IsMadeFor asked sequential path
   pub spelled : plain ≡ text_of path
 
+-- the text opens to the path of a node that was asked for
+abbrev pub IsSomeCreated : Keys → List (List ℕ) → Bool → List ℕ → Type 0
+IsSomeCreated k asked sequential text = (plain : List ℕ) × IsCreated k asked sequential text plain
+
 -- the text opens to no path that was asked for
 abbrev pub IsNotCreated : Keys → List (List ℕ) → Bool → List ℕ → Type 0
 IsNotCreated k asked sequential text = (path : List (List ℕ)) → Opens k text path → IsMadeFor asked sequential path → ⊥

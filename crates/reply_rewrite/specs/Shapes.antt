@@ -10,6 +10,7 @@ shape_for (asks.Refused code) = shapes.Stat
 shape_for asks.Empty = shapes.Empty
 shape_for asks.Close = shapes.Empty
 shape_for (asks.Create path sequential) = shapes.Path
+shape_for (asks.Create2 path sequential) = shapes.Created2
 shape_for (asks.StatOf path) = shapes.Stat
 shape_for (asks.Content path) = shapes.Content
 shape_for (asks.AclOf path) = shapes.Acls

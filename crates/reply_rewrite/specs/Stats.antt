@@ -17,25 +17,29 @@ pub record IsPlainStat (path : List (List ℕ)) (stored plain : Stat) : Type 0 w
   pub plain_length : IsPlainLength path stored.length plain.length
   pub same_rest : plain ≡ record stored { length = plain.length }
 
+-- no payload there has the length
+abbrev pub HasNoLength : List (List ℕ) → Stat → Type 0
+HasNoLength path stored = (plain : ℤ) → IsPlainLength path stored.length plain → ⊥
+
 -- the store tells a length that no payload there has
 pub record HasBadLength (path : List (List ℕ)) (stored : Stat) (told : ℤ) : Type 0 where
   pub is_told : told ≡ stored.length
-  pub unfit : (plain : ℤ) → IsPlainLength path stored.length plain → ⊥
+  pub unfit : HasNoLength path stored
 
 -- the payload is accepted for the path, and the Stat has the length of its content
-pub record IsPlainContent (key : List ℕ) (path : List (List ℕ)) (payload : Option (List ℕ)) (stored : Stat) (content : Option (List ℕ)) (plain : Stat) : Type 0 where
-  pub accepted : Accepts key path (content_of payload) content
+pub record IsPlainContent (keys path : List (List ℕ)) (payload : Option (List ℕ)) (stored : Stat) (content : Option (List ℕ)) (plain : Stat) : Type 0 where
+  pub accepted : Accepts keys path (content_of payload) content
   pub stat : IsPlainStat path stored plain
   pub fits : plain.length ≡ pos (length (content_of content))
 
 -- the payload is not accepted for the path; null has no bytes
-abbrev pub HasFlaw : List ℕ → List (List ℕ) → Option (List ℕ) → Flaw → Type 0
-HasFlaw key path payload flaw = FlawOf key path (content_of payload) flaw
+abbrev pub HasFlaw : List (List ℕ) → List (List ℕ) → Option (List ℕ) → Flaw → Type 0
+HasFlaw keys path payload flaw = FlawOf keys path (content_of payload) flaw
 
 -- the payload is accepted for the path, and the store tells a length that is not its
-pub record HasOtherLength (key : List ℕ) (path : List (List ℕ)) (payload : Option (List ℕ)) (stored : Stat) (told : ℤ) : Type 0 where
+pub record HasOtherLength (keys path : List (List ℕ)) (payload : Option (List ℕ)) (stored : Stat) (told : ℤ) : Type 0 where
   pub content : Option (List ℕ)
-  pub accepted : Accepts key path (content_of payload) content
+  pub accepted : Accepts keys path (content_of payload) content
   pub is_told : told ≡ stored.length
   pub unfit : IsPlainLength path stored.length (pos (length (content_of content))) → ⊥
 
@@ -45,7 +49,7 @@ IsLengthCause path stored (Length told) = HasBadLength path stored told
 IsLengthCause path stored cause = ⊥
 
 -- what is wrong is the payload, and else the length
-abbrev pub IsContentCause : List ℕ → List (List ℕ) → Option (List ℕ) → Stat → Cause → Type 0
-IsContentCause key path payload stored (Payload flaw) = HasFlaw key path payload flaw
-IsContentCause key path payload stored (Length told) = HasOtherLength key path payload stored told
-IsContentCause key path payload stored cause = ⊥
+abbrev pub IsContentCause : List (List ℕ) → List (List ℕ) → Option (List ℕ) → Stat → Cause → Type 0
+IsContentCause keys path payload stored (Payload flaw) = HasFlaw keys path payload flaw
+IsContentCause keys path payload stored (Length told) = HasOtherLength keys path payload stored told
+IsContentCause keys path payload stored cause = ⊥

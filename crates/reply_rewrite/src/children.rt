@@ -4,7 +4,9 @@ ghost use Rattle.std.specs.Prelude.{◌≡◌, ◌⊎◌, ◌↔◌, ◌<◌, �
 ghost use Rattle.reply_rewrite.specs.Caused.{IsCausedBy};
 ghost use Rattle.reply_rewrite.specs.Children.{AreGoodBefore, AreOpened, IsNamesCause, IsListCause, IsPlainList};
 ghost use Rattle.reply_rewrite.specs.Turns.{IsAdded};
-ghost use Rattle.reply_rewrite.specs.Short.{IsShortText, IsShortPath, AreShortNames};
+ghost use Rattle.request_queue.specs.Short.{IsShortPath};
+ghost use Rattle.zk_messages.specs.Short.{IsShort};
+ghost use Rattle.reply_rewrite.specs.Short.{AreShortNames};
 
 use crate::finding::{Cause, NotPlain};
 use crate::name_set::NameSet;
@@ -34,7 +36,7 @@ fn add_opened(
     names: &mut NameSet,
 ) -> Result<Added, Memory>
     requires path { IsShortPath path.now }
-    requires text { IsShortText text.now }
+    requires text { IsShort text.now }
     ensures { IfOk result (IsAdded keys.now path.now text.now names.old names.new) }
 {
     let Some(name) = open_name(alloc, keys, path, text.as_str())? else {
@@ -57,7 +59,7 @@ fn opened_set(
 ) -> Result<NameSet, NotPlain>
     requires path { IsShortPath path.now }
     requires few { length stored.now < 2 ^ 32 }
-    requires short { All IsShortText stored.now }
+    requires short { All IsShort stored.now }
     ensures good { IfOk result (λ names. AreGoodBefore keys.now path.now stored.now (length stored.now)) }
     ensures opened { IfOk result (AreOpened keys.now path.now stored.now (length stored.now)) }
     ensures cause { IfErr result (IsCausedBy (IsNamesCause keys.now path.now stored.now)) }

@@ -4,7 +4,7 @@ ghost use Rattle.std.specs.Prelude.{◌≡◌, ◌≤◌, ◌↔◌, pos, length
 ghost use Rattle.payload_seal.specs.Payload.{content_of};
 ghost use Rattle.reply_rewrite.specs.Caused.{IsCausedBy};
 ghost use Rattle.reply_rewrite.specs.Stats.{IsPlainContent, IsContentCause};
-ghost use Rattle.reply_rewrite.specs.Short.{IsShortText};
+ghost use Rattle.zk_messages.specs.Short.{IsShort};
 
 use crate::finding::{Cause, NotPlain};
 use crate::stat::{length_cause, plain_stat};
@@ -46,7 +46,7 @@ pub(crate) fn unveil_content(
     payload: &Option<Bytes>,
     stored: &Stat,
 ) -> Result<Node, NotPlain>
-    requires { IfSome payload.now IsShortText }
+    requires { IfSome payload.now IsShort }
     ensures plain { IfOk result (λ node. IsPlainContent keys.now path.now payload.now stored.now node.content node.stat) }
     ensures cause { IfErr result (IsCausedBy (IsContentCause keys.now path.now payload.now stored.now)) }
 {

@@ -31,7 +31,7 @@ pub enum Cause {
     MultiKind { index: u32 },
     /// The path that this operation made is not the one that was asked for.
     MultiCreated { index: u32 },
-    /// The Stat of this result has a length that is not that of a payload.
+    /// The Stat of this result, of a create2 or a setData, has a length that is not that of a payload.
     MultiLength { index: u32 },
 }
 

@@ -3,15 +3,19 @@
 ghost use Rattle.std.specs.Prelude.{◌≡◌, ◌<◌, ◌↔◌, ◌^◌, true, false, length, All, IfOk, IfErr, IsTrue};
 ghost use Rattle.reply_rewrite.specs.Caused.{IsCausedBy};
 ghost use Rattle.reply_rewrite.specs.Results.{is_failed, IsPlainResult, ArePlainResults, IsCauseAt, IsFirstCause, IsResultsCause};
+ghost use Rattle.zk_messages.specs.Short.{IsShort};
 ghost use Rattle.reply_rewrite.specs.Short.{IsShortResult};
 
 use crate::finding::{Cause, NotPlain};
 use crate::names::unveil_created;
 use crate::stat::plain_stat;
+use jute_core::Text;
 use path_seal::NameKeys;
 use request_queue::AskedOp;
 use std::alloc::Global;
 use zk_messages::{OpResult, Results};
+use zk_path::Path;
+use zk_records::Stat;
 
 // Whether the first result is an error.
 fn is_failed(stored: &[OpResult]) -> bool
@@ -40,6 +44,30 @@ fn unveil_failed(
     }
 }
 
+// The result of a create2 that was done: the path of the node, and its Stat.
+#[tactic(auto, unfolding(crate::specs::Results::IsPlainResult, crate::specs::Results::IsCauseAt, crate::specs::Results::IsOtherCreated, crate::specs::Results::IsOtherLength))]
+fn unveil_created2(
+    alloc: Global,
+    keys: &NameKeys,
+    index: u32,
+    path: &Path,
+    sequential: bool,
+    text: &Text,
+    stored: &Stat,
+) -> Result<OpResult, NotPlain>
+    requires { IsShort text.now }
+    ensures plain { IfOk result (IsPlainResult keys.now false (AskedOp.Create2 path.now sequential) (OpResult.Created2 text.now stored.now)) }
+    ensures cause { IfErr result (IsCausedBy (IsCauseAt keys.now false index (AskedOp.Create2 path.now sequential) (OpResult.Created2 text.now stored.now))) }
+{
+    let Some(made) = unveil_created(alloc, keys, path, sequential, text)? else {
+        return Err(NotPlain::Caused(Cause::MultiCreated { index }));
+    };
+    let Some(stat) = plain_stat(path, stored) else {
+        return Err(NotPlain::Caused(Cause::MultiLength { index }));
+    };
+    Ok(OpResult::Created2 { path: made, stat })
+}
+
 // The result of an operation of a multi that was done.
 #[tactic(auto, unfolding(crate::specs::Results::IsPlainResult, crate::specs::Results::IsCauseAt, crate::specs::Results::HasKind, crate::specs::Results::IsOtherCreated, crate::specs::Results::IsOtherLength, crate::specs::Short::IsShortResult))]
 fn unveil_done(
@@ -59,6 +87,9 @@ fn unveil_done(
                 Some(plain) => Ok(OpResult::Created(plain)),
                 None => Err(NotPlain::Caused(Cause::MultiCreated { index })),
             }
+        }
+        (AskedOp::Create2 { path, sequential }, OpResult::Created2 { path: text, stat }) => {
+            unveil_created2(alloc, keys, index, path, *sequential, text, stat)
         }
         (AskedOp::Delete, OpResult::Deleted) => Ok(OpResult::Deleted),
         (AskedOp::SetContent { path }, OpResult::Changed(stat)) => match plain_stat(path, stat) {

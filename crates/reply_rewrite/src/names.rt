@@ -3,7 +3,7 @@
 ghost use Rattle.std.specs.Prelude.{◌≡◌, ◌≤◌, ◌↔◌, ◌^◌, ℕ, List, length, IfOk, IfSome, IfNone, IsTrue};
 ghost use Rattle.path_seal.specs.Sealed.{Opens};
 ghost use Rattle.reply_rewrite.specs.Names.{IsMadeFor, IsCreated, IsNotCreated, IsSynced};
-ghost use Rattle.reply_rewrite.specs.Short.{IsShortText};
+ghost use Rattle.zk_messages.specs.Short.{IsShort};
 
 use jute_core::{Memory, Text};
 use path_seal::{NameKeys, open_path};
@@ -33,7 +33,7 @@ pub(crate) fn unveil_created(
     sequential: bool,
     text: &Text,
 ) -> Result<Option<Text>, Memory>
-    requires { IsShortText text.now }
+    requires { IsShort text.now }
     ensures some { IfOk result (λ found. IfSome found (IsCreated keys.now asked.now sequential text.now)) }
     ensures none { IfOk result (λ found. IfNone found (IsNotCreated keys.now asked.now sequential text.now)) }
 {
@@ -55,7 +55,7 @@ pub(crate) fn unveil_synced(
     asked: &Path,
     text: &Text,
 ) -> Result<Option<Text>, Memory>
-    requires { IsShortText text.now }
+    requires { IsShort text.now }
     ensures some { IfOk result (λ found. IfSome found (IsSynced keys.now asked.now text.now)) }
     ensures none { IfOk result (λ found. IfNone found (Opens keys.now text.now asked.now → ⊥)) }
 {

@@ -4,7 +4,9 @@ ghost use Rattle.std.specs.Prelude.{◌≡◌, ◌↔◌, ◌<◌, ◌^◌, leng
 ghost use Rattle.zk_messages.specs.Refuses.{IsOpen, open_acl};
 ghost use Rattle.reply_rewrite.specs.Admits.{IsPlain, IsCauseOf};
 ghost use Rattle.reply_rewrite.specs.Caused.{IsCausedBy};
-ghost use Rattle.reply_rewrite.specs.Short.{AreShortNames, IsShortPath, IsShortResult, IsShortText};
+ghost use Rattle.request_queue.specs.Short.{IsShortPath};
+ghost use Rattle.zk_messages.specs.Short.{IsShort};
+ghost use Rattle.reply_rewrite.specs.Short.{AreShortNames, IsShortResult};
 
 use crate::children::unveil_children;
 use crate::content::{Node, unveil_content};
@@ -29,7 +31,7 @@ pub(crate) fn unveil_create(
     sequential: bool,
     text: &Text,
 ) -> Result<Outcome, NotPlain>
-    requires { IsShortText text.now }
+    requires { IsShort text.now }
     ensures plain { IfOk result (IsPlain keys.now (Asked.Create path.now sequential) (Outcome.Path text.now)) }
     ensures cause { IfErr result (IsCausedBy (IsCauseOf keys.now (Asked.Create path.now sequential) (Outcome.Path text.now))) }
 {
@@ -37,6 +39,27 @@ pub(crate) fn unveil_create(
         Some(plain) => Ok(Outcome::Path(plain)),
         None => Err(NotPlain::Caused(Cause::Created)),
     }
+}
+
+/// The plain path of a node that was made, and its Stat.
+#[tactic(auto, using(crate::proofs::Answering::answers), unfolding(crate::specs::Admits::IsPlain, crate::specs::Admits::IsCauseOf))]
+pub(crate) fn unveil_create2(
+    alloc: Global,
+    keys: &EntryKeys,
+    path: &Path,
+    sequential: bool,
+    text: &Text,
+    stored: &Stat,
+) -> Result<Outcome, NotPlain>
+    requires { IsShort text.now }
+    ensures plain { IfOk result (IsPlain keys.now (Asked.Create2 path.now sequential) (Outcome.Created2 text.now stored.now)) }
+    ensures cause { IfErr result (IsCausedBy (IsCauseOf keys.now (Asked.Create2 path.now sequential) (Outcome.Created2 text.now stored.now))) }
+{
+    let Some(made) = unveil_created(alloc, &keys.names, path, sequential, text)? else {
+        return Err(NotPlain::Caused(Cause::Created));
+    };
+    let stat = unveil_stat(path, stored)?;
+    Ok(Outcome::Created2 { path: made, stat })
 }
 
 /// The plain path of a node that was synced.
@@ -47,7 +70,7 @@ pub(crate) fn unveil_sync(
     path: &Path,
     text: &Text,
 ) -> Result<Outcome, NotPlain>
-    requires { IsShortText text.now }
+    requires { IsShort text.now }
     ensures plain { IfOk result (IsPlain keys.now (Asked.SyncOf path.now) (Outcome.Path text.now)) }
     ensures cause { IfErr result (IsCausedBy (IsCauseOf keys.now (Asked.SyncOf path.now) (Outcome.Path text.now))) }
 {
@@ -80,7 +103,7 @@ pub(crate) fn unveil_get_content(
     payload: &Option<Bytes>,
     stored: &Stat,
 ) -> Result<Outcome, NotPlain>
-    requires { IfSome payload.now IsShortText }
+    requires { IfSome payload.now IsShort }
     ensures plain { IfOk result (IsPlain keys.now (Asked.Content path.now) (Outcome.Content payload.now stored.now)) }
     ensures cause { IfErr result (IsCausedBy (IsCauseOf keys.now (Asked.Content path.now) (Outcome.Content payload.now stored.now))) }
 {

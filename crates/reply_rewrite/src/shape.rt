@@ -18,6 +18,10 @@ pub fn shape_of(asked: &Asked) -> Shape
             sequential: _,
         }
         | Asked::SyncOf { path: _ } => Shape::Path,
+        Asked::Create2 {
+            path: _,
+            sequential: _,
+        } => Shape::Created2,
         Asked::Content { path: _ } => Shape::Content,
         Asked::AclOf { path: _ } => Shape::Acls,
         Asked::Children { path: _ } => Shape::Children,

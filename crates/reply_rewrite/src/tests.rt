@@ -3,7 +3,9 @@
 ghost use Rattle.std.specs.Prelude.{◌≤◌, ◌<◌, ◌^◌, length, All, IfSome, IsTrue};
 ghost use Rattle.zk_messages.specs.Replies.{HasShape};
 ghost use Rattle.reply_rewrite.specs.Shapes.{shape_for};
-ghost use Rattle.reply_rewrite.specs.Short.{AreShortNames, HasShortParts, HasShortPath, IsShortPath, IsShortResult, IsShortText};
+ghost use Rattle.request_queue.specs.Short.{HasShortPath, IsShortPath};
+ghost use Rattle.zk_messages.specs.Short.{IsShort};
+ghost use Rattle.reply_rewrite.specs.Short.{AreShortNames, HasShortParts, IsShortResult};
 
 use super::*;
 use jute_core::{Bytes, Text, Texts};

@@ -6,11 +6,12 @@ ghost use Rattle.request_queue.specs.Asking.{IsAsked};
 ghost use Rattle.reply_rewrite.specs.Admits.{IsPlain, IsCauseOf, AdmitsOutcome, Admits, IsRefused, IsFailure};
 ghost use Rattle.reply_rewrite.specs.Caused.{IsCausedBy};
 ghost use Rattle.reply_rewrite.specs.Shapes.{shape_for};
-ghost use Rattle.reply_rewrite.specs.Short.{HasShortPath, HasShortParts};
+ghost use Rattle.request_queue.specs.Short.{HasShortPath};
+ghost use Rattle.reply_rewrite.specs.Short.{HasShortParts};
 
 use crate::finding::{Cause, NotPlain};
 use crate::rows::{
-    unveil_create, unveil_get_acl, unveil_get_children, unveil_get_children2, unveil_get_content,
+    unveil_create, unveil_create2, unveil_get_acl, unveil_get_children, unveil_get_children2, unveil_get_content,
     unveil_multi, unveil_stat_of, unveil_sync,
 };
 use jute_core::Memory;
@@ -23,7 +24,7 @@ use zk_messages::{Outcome, Reply};
 const MARSHALLING_ERROR: i32 = -5;
 
 // The plain form of an answer that is no error, to a request that was not refused.
-#[tactic(auto, unfolding(crate::specs::Admits::IsPlain, crate::specs::Short::HasShortPath, crate::specs::Short::HasShortParts))]
+#[tactic(auto, unfolding(crate::specs::Admits::IsPlain, request_queue::specs::Short::HasShortPath, crate::specs::Short::HasShortParts))]
 fn unveil_done(
     alloc: Global,
     keys: &EntryKeys,
@@ -42,6 +43,9 @@ fn unveil_done(
         (Asked::Empty | Asked::Close, Outcome::Empty) => Ok(Outcome::Empty),
         (Asked::Create { path, sequential }, Outcome::Path(text)) => {
             unveil_create(alloc, keys, path, *sequential, &text)
+        }
+        (Asked::Create2 { path, sequential }, Outcome::Created2 { path: text, stat }) => {
+            unveil_create2(alloc, keys, path, *sequential, &text, &stat)
         }
         (Asked::StatOf { path }, Outcome::Stat(stat)) => unveil_stat_of(keys, path, &stat),
         (Asked::Content { path }, Outcome::Content { content, stat }) => {

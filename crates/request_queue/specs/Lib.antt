@@ -1,3 +1,4 @@
 pub mod Asking
+pub mod Short
 pub mod Weights
 pub mod Kept

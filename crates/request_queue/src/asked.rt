@@ -17,6 +17,8 @@ pub enum Asked {
     Close,
     /// create. The path is a stem where it is sequential.
     Create { path: Path, sequential: bool },
+    /// create2, in the same way: its reply has the Stat of the new node too.
+    Create2 { path: Path, sequential: bool },
     /// exists, setData or setACL.
     StatOf { path: Path },
     /// getData.
@@ -38,6 +40,8 @@ pub enum Asked {
 pub enum AskedOp {
     /// The path is a stem where it is sequential.
     Create { path: Path, sequential: bool },
+    /// In the same way.
+    Create2 { path: Path, sequential: bool },
     Delete,
     SetContent { path: Path },
     Check,

@@ -9,9 +9,10 @@ use Rattle.sha2.proofs.Facts256.{length-sha256}
 use Rattle.gcm_mode.specs.Gcm.{Gcm, text_under, gcm_tag}
 use Rattle.gcm_mode.proofs.Counting.{length-text_under, length-gcm_tag}
 use Rattle.jute_core.specs.Jute.{buffer, ustring, vector}
-use Rattle.zk_path.specs.Paths.{IsComponent, IsPath, IsStem, joined, text_of}
+use Rattle.zk_path.specs.Paths.{IsComponent, IsNamed, IsPath, IsStem, joined, text_of}
 use Rattle.path_seal.specs.Sealed.{Keys, SealName, sealed, SealPath, SealStem}
 use Rattle.path_seal.proofs.NameBytes.{length-SealName}
+use Rattle.payload_seal.specs.Keys.{epoch_of, key_of}
 use Rattle.payload_seal.specs.Payload.{SealData, plain_payload, flag_of, content_of}
 use Rattle.payload_seal.specs.declared.keys.EntryKeys.{EntryKeys}
 use Rattle.watch_rewrite.specs.Watches.{SealsText, SealsList, VeilsWatches}
@@ -83,18 +84,22 @@ stem_growth k (n ∷ p) h = omega (
 )
 
 path_grown : (k : Keys) (plain veiled : List ℕ) → SealsText k plain veiled → length veiled ≤ 30 * length plain
-path_grown k plain veiled h = omega (arith, ap length h.is_sealed, ap length h.spelled, text_growth k h.path h.legal)
+path_grown k plain veiled h = omega (arith, ap length h.is_sealed, ap length h.named.spelled, text_growth k h.path h.named.legal)
+
+named_grown : (k : Keys) (text : List ℕ) (sequential : Bool) (p : List (List ℕ)) → IsNamed sequential text p → length (SealNameOf k sequential p) ≤ 30 * length text + 27
+unfolding IsNamed SealNameOf
+named_grown k text true p h = omega (arith, ap length h.1, stem_growth k p h.0)
+named_grown k text false p h = omega (arith, ap length h.spelled, text_growth k p h.legal)
 
 name_grown : (k : Keys) (flags : ℤ) (text : List ℕ) (sequential : Bool) (p : List (List ℕ)) → IsNameOf flags text sequential p → length (SealNameOf k sequential p) ≤ 30 * length text + 27
-unfolding IsNameOf SealNameOf
-name_grown k flags text true p h = omega (arith, ap length h.2, stem_growth k p h.1)
-name_grown k flags text false p h = omega (arith, ap length h.2, text_growth k p h.1)
+name_grown k flags text sequential p h = named_grown k text sequential p h.named
 
 -- ---- how long a payload is
 
-sealed_size : (key iv : List ℕ) (p : List (List ℕ)) (sequential : Bool) (d : Option (List ℕ)) → length iv ≡ 12 → length (SealData key iv p sequential d) ≡ length (content_of d) + 61
+sealed_size : (keys : List (List ℕ)) (iv : List ℕ) (p : List (List ℕ)) (sequential : Bool) (d : Option (List ℕ)) → length iv ≡ 12 → length (SealData keys iv p sequential d) ≡ length (content_of d) + 61
 unfolding SealData plain_payload
-sealed_size key iv p sequential d size_of =
+sealed_size keys iv p sequential d size_of =
+    let key = key_of keys (epoch_of iv) in
     let plain : List ℕ = flag_of sequential d ∷ (sha256 (text_of p) ++ content_of d) in
     let one_more : length plain ≡ suc (length (sha256 (text_of p) ++ content_of d)) = refl in
     omega (
@@ -119,8 +124,8 @@ AreIvs12 ivs = All (λ iv. length iv ≡ 12) ivs
 the_iv : (ivs : List (List ℕ)) (iv : List ℕ) → AreIvs12 ivs → ivs ≡ iv ∷ [] → length iv ≡ 12
 the_iv ivs iv all e = All-head (λ x. length x ≡ 12) iv [] (subst AreIvs12 e all)
 
-payload_grown : (key iv : List ℕ) (p : List (List ℕ)) (sequential : Bool) (d veiled : Option (List ℕ)) → length iv ≡ 12 → veiled ≡ Some (SealData key iv p sequential d) → size buffer veiled ≡ size buffer d + 61
-payload_grown key iv p sequential d veiled twelve e = omega (arith, ap (size buffer) e, sealed_size key iv p sequential d twelve, content_size d)
+payload_grown : (keys : List (List ℕ)) (iv : List ℕ) (p : List (List ℕ)) (sequential : Bool) (d veiled : Option (List ℕ)) → length iv ≡ 12 → veiled ≡ Some (SealData keys iv p sequential d) → size buffer veiled ≡ size buffer d + 61
+payload_grown keys iv p sequential d veiled twelve e = omega (arith, ap (size buffer) e, sealed_size keys iv p sequential d twelve, content_size d)
 
 -- ---- records
 
@@ -191,6 +196,8 @@ op_grown : (k : EntryKeys) (ivs : List (List ℕ)) (r v : Op) → AreIvs12 ivs �
 unfolding VeilsOp
 op_grown k ivs (ops.Create r) (ops.Create v) all x = omega (arith, create_grown k ivs r v all x)
 op_grown k ivs (ops.Create r) other all x = absurd x
+op_grown k ivs (ops.Create2 r) (ops.Create2 v) all x = omega (arith, create_grown k ivs r v all x)
+op_grown k ivs (ops.Create2 r) other all x = absurd x
 op_grown k ivs (ops.Delete r) (ops.Delete v) all x = omega (arith, delete_grown k.names r v x.0)
 op_grown k ivs (ops.Delete r) other all x = absurd x
 op_grown k ivs (ops.SetContent r) (ops.SetContent v) all x = omega (arith, content_grown k ivs r v all x)
@@ -227,6 +234,8 @@ form_grown : (k : EntryKeys) (ivs : List (List ℕ)) (r v : Request) → AreIvs1
 unfolding Veils
 form_grown k ivs (requests.Create r) (requests.Create v) all x = create_grown k ivs r v all x
 form_grown k ivs (requests.Create r) other all x = absurd x
+form_grown k ivs (requests.Create2 r) (requests.Create2 v) all x = create_grown k ivs r v all x
+form_grown k ivs (requests.Create2 r) other all x = absurd x
 form_grown k ivs (requests.Delete r) (requests.Delete v) all x = delete_grown k.names r v x.0
 form_grown k ivs (requests.Delete r) other all x = absurd x
 form_grown k ivs (requests.Exists r) (requests.Exists v) all x = watch_grown k.names r v x.0
@@ -256,7 +265,7 @@ form_grown k ivs requests.Close other all x = absurd x
 form_grown k ivs (requests.Auth body) other all x = absurd x
 form_grown k ivs (requests.Unknown kind body) other all x = absurd x
 
-veil_grown : (k : EntryKeys) (ivs : List (List ℕ)) (r v : Request) → AreIvs12 ivs → Veil k ivs r v → request_size v + 8 ≤ 30 * (request_size r + 8)
+pub veil_grown : (k : EntryKeys) (ivs : List (List ℕ)) (r v : Request) → AreIvs12 ivs → Veil k ivs r v → request_size v + 8 ≤ 30 * (request_size r + 8)
 unfolding Veil
 veil_grown k ivs r v all (inl x) = omega (arith, ap request_size x.2)
 veil_grown k ivs r v all (inr x) = omega (arith, form_grown k ivs r v all x.1)

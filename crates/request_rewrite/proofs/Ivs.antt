@@ -6,13 +6,14 @@ use Rattle.std.proofs.lemmas.List.{append-nil, take_more}
 use Rattle.std.proofs.lemmas.List.Sums.{sum_by-cons, sum_by_more, sum_by_more_le}
 use Rattle.std.proofs.lemmas.Slice.Zip.{all_zipped_more}
 use Rattle.payload_seal.specs.Ivs.{Ivs}
+use Rattle.payload_seal.specs.Keys.{epoch_of}
 use Rattle.payload_seal.specs.declared.keys.EntryKeys.{EntryKeys}
 use Rattle.zk_records.specs.declared.node.SetContentRequest.{SetContentRequest}
 use Rattle.request_queue.specs.declared.asked.AskedOp.{AskedOp}
 use Rattle.zk_messages.specs.declared.request.Op.{Op}
 use Rattle.zk_messages.specs.declared.request.Op.TheVariants as ops
 use Rattle.request_rewrite.specs.Asks.{AsksOp}
-use Rattle.request_rewrite.specs.Ivs.{ivs_from, iv_after, payloads_of_op, ivs_of_op}
+use Rattle.request_rewrite.specs.Ivs.{IsForGreatest, ivs_from, iv_after, payloads_of_op, ivs_of_op}
 use Rattle.request_rewrite.specs.Veil.{VeilsSetContent, VeilsOp, VeilsOps}
 
 pub one_iv : (s : Ivs) → ivs_from s 1 ≡ iv_after s 0 ∷ []
@@ -23,10 +24,17 @@ pub no_iv : (s : Ivs) → ivs_from s 0 ≡ []
 unfolding ivs_from
 no_iv s = refl
 
+-- there is a key for the epoch of an IV of the source
+pub epoch_known : (keys : List (List ℕ)) (s : Ivs) (i : ℕ) (iv : List ℕ) → IsForGreatest keys s → iv ≡ iv_after s i → epoch_of iv < length keys
+epoch_known keys s i iv greatest at =
+    let first : epoch_of iv ≡ s.epoch = ap epoch_of at in
+    omega (arith, greatest, first)
+
 -- an operation has one payload at most
 few : (op : Op) → payloads_of_op op ≤ 1
 unfolding payloads_of_op
 few (ops.Create r) = omega arith
+few (ops.Create2 r) = omega arith
 few (ops.Delete r) = omega arith
 few (ops.SetContent r) = omega arith
 few (ops.Check r) = omega arith
@@ -45,6 +53,7 @@ payloads_fit list h = omega (arith, h, few_payloads list)
 more_ivs : (s : Ivs) (used : ℕ) (op : Op) → ivs_from s (used + payloads_of_op op) ≡ ivs_from s used ++ ivs_of_op s used op
 unfolding ivs_from payloads_of_op ivs_of_op
 more_ivs s used (ops.Create r) = ap (ivs_from s) (add-one used)
+more_ivs s used (ops.Create2 r) = ap (ivs_from s) (add-one used)
 more_ivs s used (ops.Delete r) = ap (ivs_from s) (add-zero used) ∙ sym (append-nil (ivs_from s used))
 more_ivs s used (ops.SetContent r) = ap (ivs_from s) (add-one used)
 more_ivs s used (ops.Check r) = ap (ivs_from s) (add-zero used) ∙ sym (append-nil (ivs_from s used))

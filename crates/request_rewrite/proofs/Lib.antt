@@ -5,3 +5,4 @@ pub mod Sealing
 pub mod Whole
 pub mod Once
 pub mod Growth
+pub mod Written

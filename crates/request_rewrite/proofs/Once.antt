@@ -1,9 +1,11 @@
 -- A request has one veiled form under keys and IVs.
-use Rattle.std.proofs.Common.{◌≡◌, ℕ, ℤ, Bool, true, false, List, [], ◌∷◌, ◌++◌, length, take, drop, Option, Some, None, inl, inr, refl, sym, ap, ◌∙◌, subst}
+use Rattle.std.proofs.Common.{◌≡◌, ℕ, ℤ, Bool, true, false, List, [], ◌∷◌, ◌++◌, length, take, drop, Option, Some, None, inl, inr, refl, sym, ap, ◌∙◌, subst, IsTrue, ◌↔◌}
+use Rattle.std.proofs.lemmas.Bool.{false≢true}
 use Rattle.std.specs.List.{AllZip}
 use Rattle.std.proofs.lemmas.List.{take_at, drop_at}
 use Rattle.std.proofs.lemmas.Option.{none-some}
 use Rattle.zk_path.proofs.Judged.{one_text, one_stem_text}
+use Rattle.zk_path.specs.Paths.{IsNamed}
 use Rattle.path_seal.specs.Sealed.{Keys, SealPath}
 use Rattle.payload_seal.specs.Payload.{SealData}
 use Rattle.payload_seal.specs.declared.keys.EntryKeys.{EntryKeys}
@@ -30,17 +32,20 @@ use Rattle.request_rewrite.proofs.Whole.{one_count}
 -- ---- texts
 
 path_once : (k : Keys) (text a b : List ℕ) (x : SealsText k text a) (y : SealsText k text b) → x.path ≡ y.path
-path_once k text a b x y = one_text x.path y.path x.legal y.legal (sym x.spelled ∙ y.spelled)
+path_once k text a b x y = one_text x.path y.path x.named.legal y.named.legal (sym x.named.spelled ∙ y.named.spelled)
 
 text_once : (k : Keys) (text a b : List ℕ) → SealsText k text a → SealsText k text b → a ≡ b
 text_once k text a b x y = x.is_sealed ∙ ap (SealPath k) (path_once k text a b x y) ∙ sym y.is_sealed
 
+named_once : (text : List ℕ) (s t : Bool) (p q : List (List ℕ)) → (IsTrue s ↔ IsTrue t) → IsNamed s text p → IsNamed t text q → (s ≡ t) × (p ≡ q)
+unfolding IsNamed
+named_once text true true p q same x y = (refl, one_stem_text p q x.0 y.0 (sym x.1 ∙ y.1))
+named_once text true false p q same x y = absurd (false≢true (same.0 refl))
+named_once text false true p q same x y = absurd (false≢true (same.1 refl))
+named_once text false false p q same x y = (refl, one_text p q x.legal y.legal (sym x.spelled ∙ y.spelled))
+
 name_once : (flags : ℤ) (text : List ℕ) (s t : Bool) (p q : List (List ℕ)) → IsNameOf flags text s p → IsNameOf flags text t q → (s ≡ t) × (p ≡ q)
-unfolding IsNameOf
-name_once flags text true true p q x y = (refl, one_stem_text p q x.1 y.1 (sym x.2 ∙ y.2))
-name_once flags text true false p q x y = absurd (y.0 x.0)
-name_once flags text false true p q x y = absurd (x.0 y.0)
-name_once flags text false false p q x y = (refl, one_text p q x.1 y.1 (sym x.2 ∙ y.2))
+name_once flags text s t p q x y = named_once text s t p q (λ h. y.flagged.1 (x.flagged.0 h), λ h. x.flagged.1 (y.flagged.0 h)) x.named y.named
 
 texts_once : (k : Keys) (plain xs ys : List (List ℕ)) → AllZip (SealsText k) plain xs → AllZip (SealsText k) plain ys → xs ≡ ys
 texts_once k [] [] [] a b = refl
@@ -133,6 +138,9 @@ unfolding VeilsOp
 op_once k ivs (ops.Create r) (ops.Create v) (ops.Create w) x y = ap ops.Create (create_once k ivs r v w x y)
 op_once k ivs (ops.Create r) (ops.Create v) other x y = absurd y
 op_once k ivs (ops.Create r) other w x y = absurd x
+op_once k ivs (ops.Create2 r) (ops.Create2 v) (ops.Create2 w) x y = ap ops.Create2 (create_once k ivs r v w x y)
+op_once k ivs (ops.Create2 r) (ops.Create2 v) other x y = absurd y
+op_once k ivs (ops.Create2 r) other w x y = absurd x
 op_once k ivs (ops.Delete r) (ops.Delete v) (ops.Delete w) x y = ap ops.Delete (delete_once k.names r v w x.0 y.0)
 op_once k ivs (ops.Delete r) (ops.Delete v) other x y = absurd y
 op_once k ivs (ops.Delete r) other w x y = absurd x
@@ -147,6 +155,8 @@ op_ivs : (k : EntryKeys) (ivs : List (List ℕ)) (r v : Op) → VeilsOp k ivs r 
 unfolding VeilsOp payloads_of_op
 op_ivs k ivs (ops.Create r) (ops.Create v) x = ap length x.one_iv
 op_ivs k ivs (ops.Create r) other x = absurd x
+op_ivs k ivs (ops.Create2 r) (ops.Create2 v) x = ap length x.one_iv
+op_ivs k ivs (ops.Create2 r) other x = absurd x
 op_ivs k ivs (ops.Delete r) (ops.Delete v) x = ap length x.1
 op_ivs k ivs (ops.Delete r) other x = absurd x
 op_ivs k ivs (ops.SetContent r) (ops.SetContent v) x = ap length x.one_iv
@@ -174,6 +184,9 @@ unfolding Veils
 form_once k ivs (requests.Create r) (requests.Create v) (requests.Create w) x y = ap requests.Create (create_once k ivs r v w x y)
 form_once k ivs (requests.Create r) (requests.Create v) other x y = absurd y
 form_once k ivs (requests.Create r) other w x y = absurd x
+form_once k ivs (requests.Create2 r) (requests.Create2 v) (requests.Create2 w) x y = ap requests.Create2 (create_once k ivs r v w x y)
+form_once k ivs (requests.Create2 r) (requests.Create2 v) other x y = absurd y
+form_once k ivs (requests.Create2 r) other w x y = absurd x
 form_once k ivs (requests.Delete r) (requests.Delete v) (requests.Delete w) x y = ap requests.Delete (delete_once k.names r v w x.0 y.0)
 form_once k ivs (requests.Delete r) (requests.Delete v) other x y = absurd y
 form_once k ivs (requests.Delete r) other w x y = absurd x

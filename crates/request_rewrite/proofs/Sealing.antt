@@ -6,8 +6,9 @@ use Rattle.payload_seal.specs.declared.keys.EntryKeys.{EntryKeys}
 use Rattle.zk_records.specs.declared.create.CreateRequest.{CreateRequest}
 use Rattle.zk_records.specs.declared.node.SetContentRequest.{SetContentRequest}
 use Rattle.zk_records.specs.declared.set_acl.SetAclRequest.{SetAclRequest}
+use Rattle.zk_path.specs.Paths.{IsTextOf}
 use Rattle.zk_messages.specs.Refuses.{IsOpen, open_acl}
-use Rattle.request_rewrite.specs.Names.{IsPathOf, IsNameOf}
+use Rattle.request_rewrite.specs.Names.{IsNameOf}
 use Rattle.request_rewrite.specs.Veil.{VeilsCreate, VeilsSetContent, VeilsSetAcl}
 use Rattle.request_rewrite.proofs.Naming.{name_sealed, text_sealed}
 
@@ -24,16 +25,16 @@ create_veiled k iv r sequential path text content named is_open p c = record {
   same_flags = refl;
 }
 
-pub content_veiled : (k : EntryKeys) (iv : List ℕ) (r : SetContentRequest) (path : List (List ℕ)) (text content : List ℕ) (version : ℤ) → IsPathOf r.path path → text ≡ SealPath k.names path → content ≡ SealData k.payloads iv path false r.content → version ≡ r.version → VeilsSetContent k (iv ∷ []) r (record { path = text; content = Some content; version = version })
+pub content_veiled : (k : EntryKeys) (iv : List ℕ) (r : SetContentRequest) (path : List (List ℕ)) (text content : List ℕ) (version : ℤ) → IsTextOf r.path path → text ≡ SealPath k.names path → content ≡ SealData k.payloads iv path false r.content → version ≡ r.version → VeilsSetContent k (iv ∷ []) r (record { path = text; content = Some content; version = version })
 content_veiled k iv r path text content version named p c same = record {
   iv = iv;
-  text = record { path = path; legal = named.legal; spelled = named.spelled; is_sealed = p };
+  text = record { path = path; named = named; is_sealed = p };
   one_iv = refl;
   sealed_content = ap Some c;
   same_version = same;
 }
 
-pub acl_veiled : (k : Keys) (r : SetAclRequest) (path : List (List ℕ)) (text : List ℕ) → IsPathOf r.path path → IsOpen r.acls → text ≡ SealPath k path → VeilsSetAcl k r (record { path = text; acls = Some (open_acl ∷ []); version = r.version })
+pub acl_veiled : (k : Keys) (r : SetAclRequest) (path : List (List ℕ)) (text : List ℕ) → IsTextOf r.path path → IsOpen r.acls → text ≡ SealPath k path → VeilsSetAcl k r (record { path = text; acls = Some (open_acl ∷ []); version = r.version })
 acl_veiled k r path text named is_open p = record { text = text_sealed k r.path text path named p; same_acls = sym is_open; same_version = refl }
 
 pub ruleset sealings = (create_veiled, content_veiled, acl_veiled)

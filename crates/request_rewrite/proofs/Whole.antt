@@ -48,6 +48,10 @@ pub create_iv : (s : Ivs) (r : CreateRequest) → ivs_from s (payloads_of (reque
 unfolding ivs_from payloads_of
 create_iv s r = refl
 
+pub create2_iv : (s : Ivs) (r : CreateRequest) → ivs_from s (payloads_of (requests.Create2 r)) ≡ iv_after s 0 ∷ []
+unfolding ivs_from payloads_of
+create2_iv s r = refl
+
 pub content_iv : (s : Ivs) (r : SetContentRequest) → ivs_from s (payloads_of (requests.SetContent r)) ≡ iv_after s 0 ∷ []
 unfolding ivs_from payloads_of
 content_iv s r = refl
@@ -108,6 +112,7 @@ more_rules A B C D m n = rule_signed _ _ _ (below_zero m) (rule_signed _ _ _ (be
 
 op_signed : (op : Op) → IsSigned (RefusesOp op)
 op_signed (ops.Create r) = more_rules _ _ _ _ 7 113
+op_signed (ops.Create2 r) = more_rules _ _ _ _ 7 113
 op_signed (ops.Delete r) = two_rules _ _ 7 7
 op_signed (ops.SetContent r) = two_rules _ _ 7 7
 op_signed (ops.Check r) = one_rule _ 7
@@ -132,6 +137,7 @@ unfolding Refuses
 refused_signed (requests.Unknown kind body) code h = code_signed 5 code h
 refused_signed (requests.Auth body) code h = code_signed 114 code h
 refused_signed (requests.Create r) code h = more_rules _ _ _ _ 7 113 code h
+refused_signed (requests.Create2 r) code h = more_rules _ _ _ _ 7 113 code h
 refused_signed (requests.Delete r) code h = two_rules _ _ 7 7 code h
 refused_signed (requests.Exists r) code h = one_rule _ 7 code h
 refused_signed (requests.GetContent r) code h = two_rules _ _ 7 7 code h
@@ -151,6 +157,7 @@ unfolding AsksPlain
 no_plain_code (requests.Unknown kind body) code h = h
 no_plain_code (requests.Auth body) code h = h
 no_plain_code (requests.Create r) code h = h
+no_plain_code (requests.Create2 r) code h = h
 no_plain_code (requests.Delete r) code h = h
 no_plain_code (requests.Exists r) code h = h
 no_plain_code (requests.GetContent r) code h = h

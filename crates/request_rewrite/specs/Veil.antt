@@ -18,7 +18,7 @@ use Rattle.zk_messages.specs.declared.request.Request.{Request}
 use Rattle.zk_messages.specs.declared.request.Request.TheVariants as requests
 use Rattle.request_rewrite.specs.Names.{IsNameOf, SealNameOf}
 
--- the path or the stem is sealed, and the content for it under the one IV; null is sealed too
+-- of a create or a create2 the path or the stem is sealed, and the content for it under the one IV; null is sealed too
 pub record VeilsCreate (k : EntryKeys) (ivs : List (List ℕ)) (r v : CreateRequest) : Type 0 where
   pub sequential : Bool
   pub path : List (List ℕ)
@@ -62,6 +62,7 @@ pub record VeilsSetAcl (k : Keys) (r v : SetAclRequest) : Type 0 where
 -- an operation of a multi, and the IVs that it takes
 unfoldable pub VeilsOp : EntryKeys → List (List ℕ) → Op → Op → Type 0
 VeilsOp k ivs (ops.Create r) (ops.Create v) = VeilsCreate k ivs r v
+VeilsOp k ivs (ops.Create2 r) (ops.Create2 v) = VeilsCreate k ivs r v
 VeilsOp k ivs (ops.Delete r) (ops.Delete v) = VeilsDelete k.names r v × (ivs ≡ [])
 VeilsOp k ivs (ops.SetContent r) (ops.SetContent v) = VeilsSetContent k ivs r v
 VeilsOp k ivs (ops.Check r) (ops.Check v) = VeilsCheck k.names r v × (ivs ≡ [])
@@ -76,6 +77,7 @@ VeilsOps k ivs rs vs = ⊥
 -- the request with each name and each payload sealed, under exactly these IVs, in order
 unfoldable pub Veils : EntryKeys → List (List ℕ) → Request → Request → Type 0
 Veils k ivs (requests.Create r) (requests.Create v) = VeilsCreate k ivs r v
+Veils k ivs (requests.Create2 r) (requests.Create2 v) = VeilsCreate k ivs r v
 Veils k ivs (requests.Delete r) (requests.Delete v) = VeilsDelete k.names r v × (ivs ≡ [])
 Veils k ivs (requests.Exists r) (requests.Exists v) = VeilsPathWatch k.names r v × (ivs ≡ [])
 Veils k ivs (requests.GetContent r) (requests.GetContent v) = VeilsPathWatch k.names r v × (ivs ≡ [])

@@ -9,7 +9,7 @@
 //! this file.
 #![tactic(auto)]
 
-ghost use Rattle.request_rewrite.specs.Laws.{IsVeiledOnce, GrowsByThirty};
+ghost use Rattle.request_rewrite.specs.Laws.{IsVeiledOnce, GrowsByThirty, IsWritableWhenVeiled, IsShortWhenAsked};
 
 mod names;
 mod ops;
@@ -28,6 +28,18 @@ pub fn veiled_once()
 /// two bytes of it become 59.
 pub fn grows_by_thirty()
     ensures { GrowsByThirty }
+{}
+
+/// The law that what is handed up for a client's body of at most 4,194,303 bytes can be written, the stand-in of a refused
+/// request too.
+pub fn writable_when_veiled()
+    ensures { IsWritableWhenVeiled }
+{}
+
+/// The law that what waits for the reply to a request that was read from a body of at most 134,217,728 bytes is short, as
+/// opening that reply asks for. A multi has no more operations than its body has bytes.
+pub fn short_when_asked()
+    ensures { IsShortWhenAsked }
 {}
 
 #[cfg(test)]

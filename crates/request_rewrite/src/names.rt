@@ -1,12 +1,12 @@
 //! The parts of requests that are sealed, and the list of ACLs that is not.
 
-ghost use Rattle.std.specs.Prelude.{◌≡◌, ◌∷◌, [], ◌↔◌, IfOk, IsTrue};
+ghost use Rattle.std.specs.Prelude.{◌≡◌, ◌∷◌, [], ◌↔◌, true, IfOk, IsTrue};
 ghost use Rattle.std.specs.Option.{option_copied};
-ghost use Rattle.zk_path.specs.Paths.{IsPathText, IsStem, IsStemText, joined};
+ghost use Rattle.zk_path.specs.Paths.{IsNamed, IsPathText, IsStemText, IsTextOf};
 ghost use Rattle.path_seal.specs.Sealed.{SealPath};
-ghost use Rattle.watch_rewrite.specs.Watches.{IsShortText};
 ghost use Rattle.zk_messages.specs.Refuses.{IsNameFor, IsSequential, open_acl};
-ghost use Rattle.request_rewrite.specs.Names.{IsPathOf, IsNameOf};
+ghost use Rattle.zk_messages.specs.Short.{IsShort};
+ghost use Rattle.request_rewrite.specs.Names.{IsNameOf};
 
 use jute_core::{Bytes, Memory, Text};
 use path_seal::{NameKeys, seal_path};
@@ -24,8 +24,8 @@ pub(crate) struct Named {
 // The path of a legal path's text.
 fn legal_path(alloc: Global, text: &Text) -> Result<Path, Memory>
     requires legal { IsPathText text.now }
-    requires short { IsShortText text.now }
-    ensures { IfOk result (λ path. IsPathOf text.now path) }
+    requires short { IsShort text.now }
+    ensures { IfOk result (λ path. IsTextOf text.now path) }
 {
     match read_path(alloc, text.as_str()) {
         Ok(path) => Ok(path),
@@ -35,10 +35,11 @@ fn legal_path(alloc: Global, text: &Text) -> Result<Path, Memory>
 }
 
 // The stem of a legal stem's text.
+#[tactic(auto, unfolding(zk_path::specs::Paths::IsNamed))]
 fn legal_stem(alloc: Global, text: &Text) -> Result<Path, Memory>
     requires legal { IsStemText text.now }
-    requires short { IsShortText text.now }
-    ensures { IfOk result (λ stem. IsStem stem × (text.now ≡ joined stem)) }
+    requires short { IsShort text.now }
+    ensures { IfOk result (λ stem. IsNamed true text.now stem) }
 {
     match read_stem(alloc, text.as_str()) {
         Ok(stem) => Ok(stem),
@@ -51,8 +52,8 @@ fn legal_stem(alloc: Global, text: &Text) -> Result<Path, Memory>
 #[tactic(auto, using(crate::proofs::Naming::names))]
 pub(crate) fn veil_path(alloc: Global, keys: &NameKeys, text: &Text) -> Result<Named, Memory>
     requires legal { IsPathText text.now }
-    requires short { IsShortText text.now }
-    ensures named { IfOk result (λ name. IsPathOf text.now name.path) }
+    requires short { IsShort text.now }
+    ensures named { IfOk result (λ name. IsTextOf text.now name.path) }
     ensures is_sealed { IfOk result (λ name. name.veiled ≡ SealPath keys.now name.path) }
 {
     let path = legal_path(alloc, text)?;
@@ -76,7 +77,7 @@ pub(crate) fn name_of(
 ) -> Result<Path, Memory>
     requires legal { IsNameFor create.now.flags create.now.path }
     requires sequential { IsTrue sequential ↔ IsSequential create.now.flags }
-    requires short { IsShortText create.now.path }
+    requires short { IsShort create.now.path }
     ensures { IfOk result (λ path. IsNameOf create.now.flags create.now.path sequential path) }
 {
     if sequential {

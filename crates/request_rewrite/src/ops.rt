@@ -3,7 +3,7 @@
 ghost use Rattle.std.specs.Prelude.{◌≡◌, ◌+◌, ◌≤◌, ◌^◌, sum_by, All, IfOk};
 ghost use Rattle.std.specs.List.{AllZip};
 ghost use Rattle.request_rewrite.specs.Asks.{AsksOp};
-ghost use Rattle.request_rewrite.specs.Ivs.{ivs_from, ivs_of_op, payloads_of_op};
+ghost use Rattle.request_rewrite.specs.Ivs.{IsForGreatest, ivs_from, ivs_of_op, payloads_of_op};
 ghost use Rattle.zk_messages.specs.Short.{HasShortOpParts};
 ghost use Rattle.request_rewrite.specs.Veil.{IsAllowedOp, VeilsOp, VeilsOps};
 
@@ -34,13 +34,13 @@ pub(crate) fn payloads_of_op(op: &Op) -> u64
     ensures { result ≡ payloads_of_op op.now }
 {
     match op {
-        Op::Create(_) | Op::SetContent(_) => 1,
+        Op::Create(_) | Op::Create2(_) | Op::SetContent(_) => 1,
         Op::Delete(_) | Op::Check(_) => 0,
     }
 }
 
 // An operation before which so many IVs are used.
-#[tactic(auto, using(crate::proofs::Allowed::allowed, crate::proofs::Ivs::content_op), unfolding(crate::specs::Asks::AsksOp, crate::specs::Ivs::ivs_of_op, crate::specs::Ivs::payloads_of_op, zk_messages::specs::Short::HasShortOpParts, crate::specs::Veil::VeilsOp))]
+#[tactic(auto, using(crate::proofs::Allowed::allowed, crate::proofs::Ivs::epoch_known, crate::proofs::Ivs::content_op), unfolding(crate::specs::Asks::AsksOp, crate::specs::Ivs::ivs_of_op, crate::specs::Ivs::payloads_of_op, zk_messages::specs::Short::HasShortOpParts, crate::specs::Veil::VeilsOp))]
 fn veil_op(
     alloc: Global,
     keys: &EntryKeys,
@@ -48,6 +48,7 @@ fn veil_op(
     used: u64,
     op: &Op,
 ) -> Result<VeiledOp, Memory>
+    requires epoch { IsForGreatest keys.now.payloads ivs.now }
     requires allowed { IsAllowedOp op.now }
     requires short { HasShortOpParts op.now }
     requires left { ivs.now.count + (used + payloads_of_op op.now) ≤ 2 ^ 32 }
@@ -63,6 +64,17 @@ fn veil_op(
             };
             Ok(VeiledOp {
                 op: Op::Create(veiled.create),
+                asked,
+            })
+        }
+        Op::Create2(create) => {
+            let veiled = veil_create(alloc, keys, ivs.ahead(used), create)?;
+            let asked = AskedOp::Create2 {
+                path: veiled.path,
+                sequential: veiled.sequential,
+            };
+            Ok(VeiledOp {
+                op: Op::Create2(veiled.create),
                 asked,
             })
         }
@@ -91,6 +103,7 @@ pub(crate) fn veil_ops(
     ivs: &IvSource,
     ops: &[Op],
 ) -> Result<VeiledOps, Memory>
+    requires epoch { IsForGreatest keys.now.payloads ivs.now }
     requires allowed { All IsAllowedOp ops.now }
     requires short { All HasShortOpParts ops.now }
     requires left { ivs.now.count + sum_by payloads_of_op ops.now ≤ 2 ^ 32 }

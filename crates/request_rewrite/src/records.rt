@@ -1,11 +1,11 @@
 //! The records of requests, sealed.
 
-ghost use Rattle.std.specs.Prelude.{◌≡◌, ◌∷◌, [], None, IfOk};
-ghost use Rattle.zk_path.specs.Paths.{IsPathText};
-ghost use Rattle.watch_rewrite.specs.Watches.{IsShortText};
+ghost use Rattle.std.specs.Prelude.{◌≡◌, ◌<◌, ◌∷◌, [], None, length, IfOk};
+ghost use Rattle.payload_seal.specs.Keys.{epoch_of};
+ghost use Rattle.zk_path.specs.Paths.{IsPathText, IsTextOf};
 ghost use Rattle.zk_messages.specs.Refuses.{RefusesCreate, RefusesSetAcl};
-ghost use Rattle.request_rewrite.specs.Names.{IsPathOf, IsNameOf};
-ghost use Rattle.zk_messages.specs.Short.{IsShortContent};
+ghost use Rattle.request_rewrite.specs.Names.{IsNameOf};
+ghost use Rattle.zk_messages.specs.Short.{IsShort, IsShortContent};
 ghost use Rattle.request_rewrite.specs.Veil.{VeilsCreate, VeilsSetContent, VeilsDelete, VeilsCheck};
 ghost use Rattle.request_rewrite.specs.Veil.{VeilsPathWatch, VeilsPathOnly, VeilsSetAcl};
 
@@ -20,7 +20,7 @@ use zk_records::{
     SetContentRequest,
 };
 
-/// A create that is sealed, and what it was to make: a stem where it is sequential.
+/// A create or a create2 that is sealed, and what it was to make: a stem where it is sequential.
 #[derive(Drop)]
 pub(crate) struct VeiledCreate {
     pub(crate) create: CreateRequest,
@@ -28,7 +28,7 @@ pub(crate) struct VeiledCreate {
     pub(crate) sequential: bool,
 }
 
-/// A create sealed under this IV. A null content is sealed too, so that a store cannot tell.
+/// A create or a create2 sealed under this IV. A null content is sealed too, so that a store cannot tell.
 #[tactic(auto, using(crate::proofs::Naming::names, crate::proofs::Allowed::allowed, crate::proofs::Sealing::sealings))]
 pub(crate) fn veil_create(
     alloc: Global,
@@ -36,8 +36,9 @@ pub(crate) fn veil_create(
     iv: [u8; 12],
     create: &CreateRequest,
 ) -> Result<VeiledCreate, Memory>
+    requires epoch { epoch_of iv < length keys.now.payloads }
     requires allowed { RefusesCreate create.now None }
-    requires path { IsShortText create.now.path }
+    requires path { IsShort create.now.path }
     requires content { IsShortContent create.now.content }
     ensures veiled { IfOk result (λ x. VeilsCreate keys.now (iv ∷ []) create.now x.create) }
     ensures named { IfOk result (λ x. IsNameOf create.now.flags create.now.path x.sequential x.path) }
@@ -67,11 +68,12 @@ pub(crate) fn veil_set_content(
     iv: [u8; 12],
     request: &SetContentRequest,
 ) -> Result<(SetContentRequest, Path), Memory>
+    requires epoch { epoch_of iv < length keys.now.payloads }
     requires legal { IsPathText request.now.path }
-    requires path { IsShortText request.now.path }
+    requires path { IsShort request.now.path }
     requires content { IsShortContent request.now.content }
     ensures veiled { IfOk result (λ x. VeilsSetContent keys.now (iv ∷ []) request.now x.0) }
-    ensures named { IfOk result (λ x. IsPathOf request.now.path x.1) }
+    ensures named { IfOk result (λ x. IsTextOf request.now.path x.1) }
 {
     let name = veil_path(alloc, &keys.names, &request.path)?;
     let plain = bytes_of(&request.content);
@@ -91,7 +93,7 @@ pub(crate) fn veil_delete(
     request: &DeleteRequest,
 ) -> Result<DeleteRequest, Memory>
     requires legal { IsPathText request.now.path }
-    requires short { IsShortText request.now.path }
+    requires short { IsShort request.now.path }
     ensures { IfOk result (VeilsDelete keys.now request.now) }
 {
     let name = veil_path(alloc, keys, &request.path)?;
@@ -108,7 +110,7 @@ pub(crate) fn veil_check(
     request: &CheckRequest,
 ) -> Result<CheckRequest, Memory>
     requires legal { IsPathText request.now.path }
-    requires short { IsShortText request.now.path }
+    requires short { IsShort request.now.path }
     ensures { IfOk result (VeilsCheck keys.now request.now) }
 {
     let name = veil_path(alloc, keys, &request.path)?;
@@ -126,9 +128,9 @@ pub(crate) fn veil_path_watch(
     request: &PathWatch,
 ) -> Result<(PathWatch, Path), Memory>
     requires legal { IsPathText request.now.path }
-    requires short { IsShortText request.now.path }
+    requires short { IsShort request.now.path }
     ensures veiled { IfOk result (λ x. VeilsPathWatch keys.now request.now x.0) }
-    ensures named { IfOk result (λ x. IsPathOf request.now.path x.1) }
+    ensures named { IfOk result (λ x. IsTextOf request.now.path x.1) }
 {
     let name = veil_path(alloc, keys, &request.path)?;
     let veiled = PathWatch {
@@ -146,9 +148,9 @@ pub(crate) fn veil_path_only(
     request: &PathOnly,
 ) -> Result<(PathOnly, Path), Memory>
     requires legal { IsPathText request.now.path }
-    requires short { IsShortText request.now.path }
+    requires short { IsShort request.now.path }
     ensures veiled { IfOk result (λ x. VeilsPathOnly keys.now request.now x.0) }
-    ensures named { IfOk result (λ x. IsPathOf request.now.path x.1) }
+    ensures named { IfOk result (λ x. IsTextOf request.now.path x.1) }
 {
     let name = veil_path(alloc, keys, &request.path)?;
     let veiled = PathOnly { path: name.veiled };
@@ -163,9 +165,9 @@ pub(crate) fn veil_set_acl(
     request: &SetAclRequest,
 ) -> Result<(SetAclRequest, Path), Memory>
     requires allowed { RefusesSetAcl request.now None }
-    requires short { IsShortText request.now.path }
+    requires short { IsShort request.now.path }
     ensures veiled { IfOk result (λ x. VeilsSetAcl keys.now request.now x.0) }
-    ensures named { IfOk result (λ x. IsPathOf request.now.path x.1) }
+    ensures named { IfOk result (λ x. IsTextOf request.now.path x.1) }
 {
     let name = veil_path(alloc, keys, &request.path)?;
     let veiled = SetAclRequest {

@@ -1,14 +1,15 @@
 //! Each type of request that is not refused: what the store is handed, and what is kept for the reply.
 
-ghost use Rattle.std.specs.Prelude.{◌∷◌, [], None, All, ◌+◌, ◌≤◌, ◌^◌, sum_by, IfOk};
+ghost use Rattle.std.specs.Prelude.{◌∷◌, [], None, All, ◌+◌, ◌≤◌, ◌<◌, ◌^◌, length, sum_by, IfOk};
+ghost use Rattle.payload_seal.specs.Keys.{epoch_of};
 ghost use Rattle.zk_path.specs.Paths.{IsPathText};
-ghost use Rattle.watch_rewrite.specs.Watches.{IsShortText, EachText};
+ghost use Rattle.watch_rewrite.specs.Watches.{EachText};
 ghost use Rattle.payload_seal.specs.declared.keys.EntryKeys.{EntryKeys};
 ghost use Rattle.zk_messages.specs.Refuses.{RefusesCreate, RefusesSetAcl};
 ghost use Rattle.zk_messages.specs.declared.request.Request.TheVariants as requests;
 ghost use Rattle.request_rewrite.specs.Asks.{Turns};
-ghost use Rattle.request_rewrite.specs.Ivs.{ivs_from, payloads_of_op};
-ghost use Rattle.zk_messages.specs.Short.{IsShortContent, HasShortOpParts};
+ghost use Rattle.request_rewrite.specs.Ivs.{IsForGreatest, ivs_from, payloads_of_op};
+ghost use Rattle.zk_messages.specs.Short.{IsShort, IsShortContent, HasShortOpParts};
 ghost use Rattle.request_rewrite.specs.Veil.{IsAllowedOp};
 
 use crate::ops::veil_ops;
@@ -42,8 +43,9 @@ pub(crate) fn veil_create(
     iv: [u8; 12],
     request: &CreateRequest,
 ) -> Result<Veiled, Memory>
+    requires epoch { epoch_of iv < length keys.now.payloads }
     requires allowed { RefusesCreate request.now None }
-    requires path { IsShortText request.now.path }
+    requires path { IsShort request.now.path }
     requires content { IsShortContent request.now.content }
     ensures { IfOk result (λ x. Turns keys.now (iv ∷ []) (requests.Create request.now) x.request x.asked) }
 {
@@ -58,14 +60,38 @@ pub(crate) fn veil_create(
 }
 
 #[tactic(auto, using(crate::proofs::Allowed::allowed), unfolding(crate::specs::Veil::Veils, crate::specs::Asks::AsksPlain))]
+pub(crate) fn veil_create2(
+    alloc: Global,
+    keys: &EntryKeys,
+    iv: [u8; 12],
+    request: &CreateRequest,
+) -> Result<Veiled, Memory>
+    requires epoch { epoch_of iv < length keys.now.payloads }
+    requires allowed { RefusesCreate request.now None }
+    requires path { IsShort request.now.path }
+    requires content { IsShortContent request.now.content }
+    ensures { IfOk result (λ x. Turns keys.now (iv ∷ []) (requests.Create2 request.now) x.request x.asked) }
+{
+    let veiled = veil_create_record(alloc, keys, iv, request)?;
+    Ok(Veiled {
+        request: Request::Create2(veiled.create),
+        asked: Asked::Create2 {
+            path: veiled.path,
+            sequential: veiled.sequential,
+        },
+    })
+}
+
+#[tactic(auto, using(crate::proofs::Allowed::allowed), unfolding(crate::specs::Veil::Veils, crate::specs::Asks::AsksPlain))]
 pub(crate) fn veil_set_content(
     alloc: Global,
     keys: &EntryKeys,
     iv: [u8; 12],
     request: &SetContentRequest,
 ) -> Result<Veiled, Memory>
+    requires epoch { epoch_of iv < length keys.now.payloads }
     requires legal { IsPathText request.now.path }
-    requires path { IsShortText request.now.path }
+    requires path { IsShort request.now.path }
     requires content { IsShortContent request.now.content }
     ensures { IfOk result (λ x. Turns keys.now (iv ∷ []) (requests.SetContent request.now) x.request x.asked) }
 {
@@ -83,7 +109,7 @@ pub(crate) fn veil_delete(
     request: &DeleteRequest,
 ) -> Result<Veiled, Memory>
     requires legal { IsPathText request.now.path }
-    requires short { IsShortText request.now.path }
+    requires short { IsShort request.now.path }
     ensures { IfOk result (λ x. Turns keys.now [] (requests.Delete request.now) x.request x.asked) }
 {
     let request = veil_delete_record(alloc, &keys.names, request)?;
@@ -100,7 +126,7 @@ pub(crate) fn veil_exists(
     request: &PathWatch,
 ) -> Result<Veiled, Memory>
     requires legal { IsPathText request.now.path }
-    requires short { IsShortText request.now.path }
+    requires short { IsShort request.now.path }
     ensures { IfOk result (λ x. Turns keys.now [] (requests.Exists request.now) x.request x.asked) }
 {
     let (request, path) = veil_path_watch(alloc, &keys.names, request)?;
@@ -117,7 +143,7 @@ pub(crate) fn veil_get_content(
     request: &PathWatch,
 ) -> Result<Veiled, Memory>
     requires legal { IsPathText request.now.path }
-    requires short { IsShortText request.now.path }
+    requires short { IsShort request.now.path }
     ensures { IfOk result (λ x. Turns keys.now [] (requests.GetContent request.now) x.request x.asked) }
 {
     let (request, path) = veil_path_watch(alloc, &keys.names, request)?;
@@ -134,7 +160,7 @@ pub(crate) fn veil_get_children(
     request: &PathWatch,
 ) -> Result<Veiled, Memory>
     requires legal { IsPathText request.now.path }
-    requires short { IsShortText request.now.path }
+    requires short { IsShort request.now.path }
     ensures { IfOk result (λ x. Turns keys.now [] (requests.GetChildren request.now) x.request x.asked) }
 {
     let (request, path) = veil_path_watch(alloc, &keys.names, request)?;
@@ -151,7 +177,7 @@ pub(crate) fn veil_get_children2(
     request: &PathWatch,
 ) -> Result<Veiled, Memory>
     requires legal { IsPathText request.now.path }
-    requires short { IsShortText request.now.path }
+    requires short { IsShort request.now.path }
     ensures { IfOk result (λ x. Turns keys.now [] (requests.GetChildren2 request.now) x.request x.asked) }
 {
     let (request, path) = veil_path_watch(alloc, &keys.names, request)?;
@@ -168,7 +194,7 @@ pub(crate) fn veil_get_acl(
     request: &PathOnly,
 ) -> Result<Veiled, Memory>
     requires legal { IsPathText request.now.path }
-    requires short { IsShortText request.now.path }
+    requires short { IsShort request.now.path }
     ensures { IfOk result (λ x. Turns keys.now [] (requests.GetAcl request.now) x.request x.asked) }
 {
     let (request, path) = veil_path_only(alloc, &keys.names, request)?;
@@ -185,7 +211,7 @@ pub(crate) fn veil_sync(
     request: &PathOnly,
 ) -> Result<Veiled, Memory>
     requires legal { IsPathText request.now.path }
-    requires short { IsShortText request.now.path }
+    requires short { IsShort request.now.path }
     ensures { IfOk result (λ x. Turns keys.now [] (requests.Sync request.now) x.request x.asked) }
 {
     let (request, path) = veil_path_only(alloc, &keys.names, request)?;
@@ -202,7 +228,7 @@ pub(crate) fn veil_set_acl(
     request: &SetAclRequest,
 ) -> Result<Veiled, Memory>
     requires allowed { RefusesSetAcl request.now None }
-    requires short { IsShortText request.now.path }
+    requires short { IsShort request.now.path }
     ensures { IfOk result (λ x. Turns keys.now [] (requests.SetAcl request.now) x.request x.asked) }
 {
     let (request, path) = veil_set_acl_record(alloc, &keys.names, request)?;
@@ -219,7 +245,7 @@ pub(crate) fn veil_watches(
     request: &SetWatches,
 ) -> Result<Veiled, Memory>
     requires legal { EachText IsPathText request.now }
-    requires short { EachText IsShortText request.now }
+    requires short { EachText IsShort request.now }
     ensures { IfOk result (λ x. Turns keys.now [] (requests.SetWatches request.now) x.request x.asked) }
 {
     let request = veil_set_watches(alloc, &keys.names, request)?;
@@ -236,6 +262,7 @@ pub(crate) fn veil_multi(
     ivs: &IvSource,
     ops: &Ops,
 ) -> Result<Veiled, Memory>
+    requires epoch { IsForGreatest keys.now.payloads ivs.now }
     requires allowed { All IsAllowedOp ops.now }
     requires short { All HasShortOpParts ops.now }
     requires left { ivs.now.count + sum_by payloads_of_op ops.now ≤ 2 ^ 32 }

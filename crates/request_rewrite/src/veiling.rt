@@ -4,13 +4,13 @@ ghost use Rattle.std.specs.Prelude.{◌≡◌, ◌↔◌, ◌+◌, ◌≤◌, �
 ghost use Rattle.zk_messages.specs.Refuses.{Refuses};
 ghost use Rattle.request_queue.specs.Asking.{IsAsked};
 ghost use Rattle.request_rewrite.specs.Asks.{Asks, Turns};
-ghost use Rattle.request_rewrite.specs.Ivs.{ivs_from, payloads_of, payloads_of_op, PayloadsOf};
+ghost use Rattle.request_rewrite.specs.Ivs.{IsForGreatest, ivs_from, payloads_of, payloads_of_op, PayloadsOf};
 ghost use Rattle.zk_messages.specs.Short.{HasShortParts};
 ghost use Rattle.request_rewrite.specs.Veil.{Veil, stand_in};
 
 use crate::ops::payloads_of_op;
 use crate::requests::{
-    Veiled, veil_close, veil_create, veil_delete, veil_exists, veil_get_acl, veil_get_children,
+    Veiled, veil_close, veil_create, veil_create2, veil_delete, veil_exists, veil_get_acl, veil_get_children,
     veil_get_children2, veil_get_content, veil_multi, veil_ping, veil_set_acl, veil_set_content,
     veil_sync, veil_watches,
 };
@@ -58,7 +58,7 @@ fn payloads_of(request: &Request) -> u64
     ensures { result ≡ payloads_of request.now }
 {
     match request {
-        Request::Create(_) | Request::SetContent(_) => 1,
+        Request::Create(_) | Request::Create2(_) | Request::SetContent(_) => 1,
         Request::Multi(ops) => payloads_of_ops(ops.as_slice()),
         _ => 0,
     }
@@ -75,13 +75,14 @@ fn stand_in(alloc: Global) -> Result<Request, Memory>
 }
 
 // A request that is not refused.
-#[tactic(auto, using(crate::proofs::Allowed::allowed), unfolding(crate::specs::Ivs::ivs_from, crate::specs::Ivs::payloads_of, zk_messages::specs::Short::HasShortParts, zk_messages::specs::Refuses::Refuses))]
+#[tactic(auto, using(crate::proofs::Allowed::allowed, crate::proofs::Ivs::epoch_known), unfolding(crate::specs::Ivs::ivs_from, crate::specs::Ivs::payloads_of, zk_messages::specs::Short::HasShortParts, zk_messages::specs::Refuses::Refuses))]
 fn veil_allowed(
     alloc: Global,
     keys: &EntryKeys,
     ivs: &IvSource,
     request: &Request,
 ) -> Result<Veiled, Memory>
+    requires epoch { IsForGreatest keys.now.payloads ivs.now }
     requires allowed { Refuses request.now None }
     requires short { HasShortParts request.now }
     requires left { ivs.now.count + payloads_of request.now ≤ 2 ^ 32 }
@@ -89,6 +90,7 @@ fn veil_allowed(
 {
     match request {
         Request::Create(request) => veil_create(alloc, keys, ivs.ahead(0), request),
+        Request::Create2(request) => veil_create2(alloc, keys, ivs.ahead(0), request),
         Request::Delete(request) => veil_delete(alloc, keys, request),
         Request::Exists(request) => veil_exists(alloc, keys, request),
         Request::GetContent(request) => veil_get_content(alloc, keys, request),
@@ -123,7 +125,8 @@ fn form_of(
     ivs: &IvSource,
     request: &Request,
 ) -> Result<Form, NotVeiled>
-    requires { HasShortParts request.now }
+    requires epoch { IsForGreatest keys.now.payloads ivs.now }
+    requires short { HasShortParts request.now }
     ensures number { (n : ℕ) × PayloadsOf request.now n }
     ensures counted { IfOk result (λ x. PayloadsOf request.now x.payloads) }
     ensures left { IfOk result (λ x. ivs.now.count + x.payloads ≤ 2 ^ 32) }
@@ -156,7 +159,8 @@ fn form_of(
 ///
 /// Each name and each payload is sealed, and all else is as it was; a payload takes the next IV of the connection. A request
 /// that is refused becomes `exists "/"` without watch, so that its answer keeps its turn, and takes no IV. Each text and
-/// buffer of the request has at most 134,217,728 bytes. Linear in them, but for what sealing a path costs; each is copied
+/// buffer of the request has at most 134,217,728 bytes, and the IVs are for the greatest epoch of the keys, under whose key each
+/// payload is sealed. Linear in them, but for what sealing a path costs; each is copied
 /// at most once besides.
 ///
 /// # Errors
@@ -171,7 +175,8 @@ pub fn veil_request(
     bytes: u32,
     request: &Request,
 ) -> Result<(Request, Pending), NotVeiled>
-    requires { HasShortParts request.now }
+    requires epoch { IsForGreatest keys.now.payloads ivs.old }
+    requires short { HasShortParts request.now }
     // What the store is handed, and which IVs that took.
     ensures veiled { (n : ℕ) → PayloadsOf request.now n → IfOk result (λ x. Veil keys.now (ivs_from ivs.old n) request.now x.0) }
     ensures taken { (n : ℕ) → PayloadsOf request.now n → OnOk result (ivs.new ≡ record ivs.old { count = ivs.old.count + n }) }

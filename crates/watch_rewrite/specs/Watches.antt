@@ -1,15 +1,14 @@
 -- The sealed form of a setWatches: each path sealed at its place, and nothing else changed.
-use Rattle.std.specs.Prelude.{◌≡◌, ◌≤◌, ◌^◌, ℕ, List, Option, Some, None, length, All, IfSome}
+use Rattle.std.specs.Prelude.{◌≡◌, ℕ, List, Option, Some, None, All, IfSome}
 use Rattle.std.specs.List.{AllZip}
-use Rattle.zk_path.specs.Paths.{IsPath, text_of}
+use Rattle.zk_path.specs.Paths.{IsTextOf}
 use Rattle.path_seal.specs.Sealed.{Keys, SealPath}
 use Rattle.zk_records.specs.declared.set_watches.SetWatches.{SetWatches}
 
 -- a legal path's text, and what the path is sealed to
 pub record SealsText (k : Keys) (plain veiled : List ℕ) : Type 0 where
   pub path : List (List ℕ)
-  pub legal : IsPath path
-  pub spelled : plain ≡ text_of path
+  pub named : IsTextOf plain path
   pub is_sealed : veiled ≡ SealPath k path
 
 -- so many texts, and each sealed at its place
@@ -28,10 +27,6 @@ pub record VeilsWatches (k : Keys) (old new : SetWatches) : Type 0 where
   pub content : SealsList k old.content_paths new.content_paths
   pub exist : SealsList k old.exist_paths new.exist_paths
   pub child : SealsList k old.child_paths new.child_paths
-
--- a text has at most 2 ^ 27 bytes
-abbrev pub IsShortText : List ℕ → Type 0
-IsShortText text = length text ≤ 2 ^ 27
 
 -- each text of the three lists has the property
 pub record EachText (P : List ℕ → Type 0) (w : SetWatches) : Type 0 where

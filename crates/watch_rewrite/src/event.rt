@@ -1,6 +1,7 @@
 //! Events, opened.
 
-ghost use Rattle.std.specs.Prelude.{◌≡◌, ◌≤◌, ◌^◌, length, IfOk, IfErr};
+ghost use Rattle.std.specs.Prelude.{◌≡◌, IfOk, IfErr};
+ghost use Rattle.zk_messages.specs.Short.{IsShort};
 ghost use Rattle.watch_rewrite.specs.Events.{IsPlainEvent, IsFlawIn};
 
 use jute_core::{Memory, Text};
@@ -46,7 +47,7 @@ impl From<Memory> for NotEvent {
 /// # Errors
 /// The first flaw of the event, or want of memory.
 pub fn unveil_event(alloc: Global, keys: &NameKeys, event: &Event) -> Result<Event, NotEvent>
-    requires { length event.now.path ≤ 2 ^ 27 }
+    requires { IsShort event.now.path }
     ensures ok { IfOk result (IsPlainEvent keys.now event.now) }
     ensures bad { IfErr result (IsFlawIn keys.now event.now) }
 {

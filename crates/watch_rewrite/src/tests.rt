@@ -2,7 +2,7 @@
 
 ghost use Rattle.std.specs.Prelude.{◌≤◌, ◌^◌, length, IfOk};
 ghost use Rattle.zk_path.specs.Paths.{IsPathText};
-ghost use Rattle.watch_rewrite.specs.Watches.{IsShortText};
+ghost use Rattle.zk_messages.specs.Short.{IsShort};
 
 use super::*;
 use jute_core::{Text, Texts};
@@ -34,7 +34,7 @@ fn keys() -> NameKeys {
 fn path_text(alloc: Global, text: &str) -> Result<Text, Fail>
     requires { length text.now ≤ 2 ^ 27 }
     ensures legal { IfOk result IsPathText }
-    ensures short { IfOk result IsShortText }
+    ensures short { IfOk result IsShort }
 {
     if check_path(text).is_some() {
         return Err("no legal path".into());

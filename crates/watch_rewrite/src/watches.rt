@@ -2,7 +2,8 @@
 
 ghost use Rattle.std.specs.Prelude.{All, IfOk, IfSome};
 ghost use Rattle.zk_path.specs.Paths.{IsPathText};
-ghost use Rattle.watch_rewrite.specs.Watches.{IsShortText, EachText, SealsText, SealsTexts, SealsList, VeilsWatches};
+ghost use Rattle.zk_messages.specs.Short.{IsShort};
+ghost use Rattle.watch_rewrite.specs.Watches.{EachText, SealsText, SealsTexts, SealsList, VeilsWatches};
 
 use jute_core::{Memory, Text, Texts};
 use path_seal::{NameKeys, seal_path};
@@ -13,7 +14,7 @@ use zk_records::SetWatches;
 // The sealed form of a legal path's text.
 fn veil_text(alloc: Global, keys: &NameKeys, text: &str) -> Result<Text, Memory>
     requires legal { IsPathText text.now }
-    requires short { IsShortText text.now }
+    requires short { IsShort text.now }
     ensures { IfOk result (SealsText keys.now text.now) }
 {
     match read_path(alloc, text) {
@@ -26,7 +27,7 @@ fn veil_text(alloc: Global, keys: &NameKeys, text: &str) -> Result<Text, Memory>
 // Each of these texts, sealed.
 fn veil_texts(alloc: Global, keys: &NameKeys, texts: &[Text]) -> Result<Vec<Text>, Memory>
     requires legal { All IsPathText texts.now }
-    requires short { All IsShortText texts.now }
+    requires short { All IsShort texts.now }
     ensures { IfOk result (λ veiled. SealsTexts keys.now texts.now veiled.items) }
 {
     let mut veiled = Vec::with_capacity(alloc, texts.len())?;
@@ -39,7 +40,7 @@ fn veil_texts(alloc: Global, keys: &NameKeys, texts: &[Text]) -> Result<Vec<Text
 // A list of texts that may be null, sealed.
 fn veil_list(alloc: Global, keys: &NameKeys, list: &Option<Texts>) -> Result<Option<Texts>, Memory>
     requires legal { IfSome list.now (All IsPathText) }
-    requires short { IfSome list.now (All IsShortText) }
+    requires short { IfSome list.now (All IsShort) }
     ensures { IfOk result (SealsList keys.now list.now) }
 {
     match list {
@@ -59,7 +60,7 @@ pub fn veil_set_watches(
     watches: &SetWatches,
 ) -> Result<SetWatches, Memory>
     requires legal { EachText IsPathText watches.now }
-    requires short { EachText IsShortText watches.now }
+    requires short { EachText IsShort watches.now }
     ensures { IfOk result (VeilsWatches keys.now watches.now) }
 {
     let content_paths = veil_list(alloc, keys, &watches.content_paths)?;
