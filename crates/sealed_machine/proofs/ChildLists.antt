@@ -25,7 +25,7 @@ use Rattle.tree_state.proofs.Reorder.{length-Shuffles, Shuffles-sym}
 use Rattle.tree_state.proofs.NameSets.{has_name}
 use Rattle.tree_state.proofs.ChildNames.{has_child_name}
 use Rattle.tree_server.proofs.Zipping.{Zips, length_zips}
-use Rattle.sealed_machine.proofs.SimWords.{SealsName}
+use Rattle.sealed_machine.proofs.SealedStates.{SealsName}
 
 -- ---- related lists in another order
 
