@@ -1,4 +1,4 @@
 pub mod Words
-pub mod Orders
-pub mod Filling
-pub mod Begun
+pub mod SessionMessages
+pub mod SessionStands
+pub mod SessionFrames
