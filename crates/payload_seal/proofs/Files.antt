@@ -1,5 +1,5 @@
 -- What a file of keys holds.
-use Rattle.std.proofs.Common.{◌≡◌, ℕ, ◌+◌, ◌-◌, ◌*◌, ◌/◌, ◌%◌, ◌≤◌, List, ◌∷◌, take, drop, length, ◌∙◌, arith}
+use Rattle.std.proofs.Common.{◌≡◌, ℕ, ◌-◌, ◌/◌, ◌%◌, ◌≤◌, List, ◌∷◌, take, drop, ◌∙◌, arith}
 use Rattle.payload_seal.specs.Keys.{IsKeyFileSize, keys_in, payload_keys}
 
 pub file_size : (size : ℕ) → 64 ≤ size → size ≤ 4144 → size % 16 ≡ 0 → IsKeyFileSize size

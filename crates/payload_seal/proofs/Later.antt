@@ -1,12 +1,12 @@
 -- Keys of later epochs change nothing for a payload.
-use Rattle.std.proofs.Common.{◌≡◌, ℕ, zero, suc, ◌+◌, ◌*◌, ◌<◌, ◌≤◌, ◌↔◌, List, [], ◌∷◌, ◌++◌, length, take, drop, get_or, Option, refl, sym, ap, ◌∙◌, subst, arith, length-append}
+use Rattle.std.proofs.Common.{◌≡◌, ℕ, ◌+◌, ◌*◌, ◌<◌, ◌↔◌, List, [], ◌∷◌, ◌++◌, length, take, drop, Option, sym, ap, ◌∙◌, subst, arith, length-append}
 use Rattle.std.proofs.lemmas.List.{get_or_append_left, take-take, drop-take, length-take-le, take-append-drop}
 use Rattle.gcm_mode.specs.Gcm.{gcm_tag, text_under}
 use Rattle.payload_seal.specs.declared.opening.Flaw.{Flaw}
 use Rattle.payload_seal.specs.declared.opening.Flaw.TheVariants.{Short, UnknownEpoch, BadTag, BadFlag, WrongPath}
 use Rattle.payload_seal.specs.Keys.{epoch_of, key_of, keys_in, payload_keys}
 use Rattle.payload_seal.specs.Payload.{OpensTo, Accepts}
-use Rattle.payload_seal.specs.Flaws.{FlawOf, HasUnknownEpoch, HasBadTag, HasBadFlag, HasWrongPath}
+use Rattle.payload_seal.specs.Flaws.{FlawOf}
 use Rattle.payload_seal.specs.Laws.{IsKeptByLaterKeys}
 use Rattle.payload_seal.proofs.Parts.{cut_epoch}
 

@@ -1,6 +1,6 @@
 -- Keys that are put into places one after another.
-use Rattle.std.proofs.Common.{◌≡◌, ℕ, zero, suc, ◌+◌, ◌-◌, ◌*◌, ◌<◌, ◌≤◌, List, [], ◌∷◌, ◌++◌, length, take, drop, set, get_or, replicate, refl, sym, ap, ◌∙◌, subst, arith}
-use Rattle.std.proofs.lemmas.List.{length-set, length-take-le, take_more_set, drop-set-lt, drop-drop, get_or-set_same, get_or-take}
+use Rattle.std.proofs.Common.{◌≡◌, ℕ, zero, suc, ◌+◌, ◌-◌, ◌*◌, ◌<◌, List, [], ◌∷◌, ◌++◌, length, take, drop, set, replicate, refl, sym, ap, ◌∙◌, subst, arith}
+use Rattle.std.proofs.lemmas.List.{length-set, take_more_set, drop-set-lt, drop-drop, get_or-set_same}
 use Rattle.payload_seal.specs.Keys.{key_of, keys_in, HoldsKeys}
 
 -- the places up to the epoch hold the keys, and the others zeros

@@ -1,4 +1,4 @@
-use Rattle.std.proofs.Common.{rules, ◌≡◌, ◌-◌, ◌/◌, length, refl, arith}
+use Rattle.std.proofs.Common.{rules, length, refl, arith}
 use Rattle.std.proofs.lemmas.List.{take_rest}
 use Rattle.payload_seal.proofs.Files.{file_size, keys_read}
 use Rattle.payload_seal.proofs.keys.read_keys.Goals as goal

@@ -1,5 +1,4 @@
-use Rattle.std.proofs.Common.{rules, ◌≡◌, arith}
-use Rattle.payload_seal.specs.Keys.{key_of}
+use Rattle.std.proofs.Common.{◌≡◌, arith}
 use Rattle.payload_seal.proofs.Places.{fill_first, fill_more, holds_filled}
 use Rattle.payload_seal.proofs.keys.PayloadKeys.of_all.Goals as goal
 

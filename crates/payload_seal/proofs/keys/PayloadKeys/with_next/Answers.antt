@@ -1,4 +1,4 @@
-use Rattle.std.proofs.Common.{rules, ◌≡◌, ◌+◌, ◌<◌, arith}
+use Rattle.std.proofs.Common.{rules, ◌≡◌, ◌+◌, ◌<◌}
 use Rattle.payload_seal.proofs.Places.{next_holds}
 use Rattle.payload_seal.proofs.keys.PayloadKeys.with_next.Goals as goal
 
