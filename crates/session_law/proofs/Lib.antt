@@ -2,3 +2,8 @@ pub mod Words
 pub mod SessionMessages
 pub mod SessionStands
 pub mod SessionFrames
+pub mod SessionSides
+pub mod OneSession
+pub mod Orders
+pub mod Filling
+pub mod Begun
