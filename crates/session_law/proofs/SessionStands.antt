@@ -1,5 +1,5 @@
 -- Where one session stands that hears the messages of an honest store, and what the frames of its client leave of that.
-use Rattle.std.proofs.Common.{◌≡◌, ℕ, zero, suc, ℤ, ◌+◌, ◌≤◌, List, [], ◌∷◌, ◌++◌, Option, Some, None, length, refl, sym, ap, subst, ◌∙◌, arith, length-append}
+use Rattle.std.proofs.Common.{◌≡◌, ℕ, zero, suc, ℤ, ◌+◌, ◌≤◌, List, [], ◌∷◌, ◌++◌, Some, None, length, refl, sym, ap, subst, ◌∙◌, arith, length-append}
 use Rattle.payload_seal.specs.declared.keys.EntryKeys.{EntryKeys}
 use Rattle.zk_records.specs.declared.connect.ConnectResponse.{ConnectResponse}
 use Rattle.zk_messages.specs.declared.reply.Reply.{Reply}
