@@ -7,6 +7,7 @@ use Rattle.zk_messages.specs.declared.reply.Event.{Event}
 use Rattle.zk_messages.specs.declared.reply.Reply.{Reply}
 use Rattle.zk_messages.specs.declared.request.Item.{Item}
 use Rattle.zk_messages.specs.declared.request.Item.TheVariants as items
+use Rattle.zk_messages.specs.declared.request.Request.{Request}
 use Rattle.zk_messages.specs.declared.request.Request.TheVariants as requests
 use Rattle.tree_state.specs.declared.message.Message.{Message}
 use Rattle.tree_state.specs.declared.message.Message.TheVariants as messages
@@ -81,8 +82,18 @@ pub record Ended (c : ℕ) (es : List Entry) (left : List Message) : Type 0 wher
 ends_in_close : (is : List Item) (xid : ℤ) → EndsInClose (is ++ items.Requests xid requests.Close ∷ [])
 unfolding EndsInClose
 ends_in_close [] xid = tt
-ends_in_close (i ∷ []) xid = tt
-ends_in_close (i ∷ j ∷ is) xid = ends_in_close (j ∷ is) xid
+ends_in_close (items.Asks a ∷ []) xid = tt
+ends_in_close (items.Requests x r ∷ []) xid = go r
+  where
+    go : (r : Request) → EndsInClose (items.Requests x r ∷ items.Requests xid requests.Close ∷ [])
+    go requests.Close = tt
+    go r = tt
+ends_in_close (items.Asks a ∷ j ∷ is) xid = ends_in_close (j ∷ is) xid
+ends_in_close (items.Requests x r ∷ j ∷ is) xid = go r (ends_in_close (j ∷ is) xid)
+  where
+    go : (r : Request) → EndsInClose (j ∷ is ++ items.Requests xid requests.Close ∷ []) → EndsInClose (items.Requests x r ∷ j ∷ is ++ items.Requests xid requests.Close ∷ [])
+    go requests.Close h = h
+    go r h = h
 
 pub closed_ends : (k : EntryKeys) (c : ℕ) (s : State) (es : List Entry) (fs : List Act) (before : List Question) (last : Question) (open_ : List Question) (done left ns : List Message) → Closing c s es fs → last.asked ≡ asks.Close → all_asked c s fs ≡ (before ++ last ∷ []) ++ open_ → to_connection c (outputs plain s fs) ≡ done ++ left → Talks k open_ left ns → Ended c es left
 closed_ends k c s es fs before last open_ done left ns (stays_open h) closes a o t = absurd (closes_none before last open_ (subst NoneCloses (a ∙ append_assoc before (last ∷ []) open_) h) closes)

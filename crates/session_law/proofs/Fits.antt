@@ -1,7 +1,8 @@
 -- Where what comes to each connection has bytes, each answer fits a frame; and a store that follows names no negative length.
-use Rattle.std.proofs.Common.{◌≡◌, ◌⊎◌, ℕ, ℤ, pos, Bool, true, false, cond, List, [], ◌∷◌, ◌++◌, length, inl, inr, refl, sym, ap, subst, ◌∙◌, arith, ints, append_assoc, length-append, FitsSigned, w32}
+use Rattle.std.proofs.Common.{◌≡◌, ◌⊎◌, ℕ, ℤ, pos, Bool, true, false, cond, List, [], ◌∷◌, ◌++◌, length, inl, inr, refl, sym, ap, subst, ◌∙◌, arith, append_assoc, length-append, FitsSigned, w32}
 use Rattle.std.specs.Prelude.{All, ◌==◌, ◌<◌, ◌^◌, ◌<ℤ◌}
 use Rattle.std.proofs.lemmas.Bool.{eq-eqb}
+use Rattle.std.proofs.lemmas.Int.{ints}
 use Rattle.std.proofs.lemmas.List.Elements.{All-nil, All-cons, All-head, All-tail}
 use Rattle.jute_core.specs.Frames.{frame}
 use Rattle.jute_core.specs.Jute.{int_bytes}

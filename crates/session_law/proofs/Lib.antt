@@ -16,3 +16,4 @@ pub mod UpWhole
 pub mod Ends
 pub mod Fits
 pub mod Told
+pub mod Joined

@@ -55,7 +55,7 @@ grown_on old new final more g e = (g.0 ++ more, e ∙ ap (λ (l : List Item). l 
 -- ---- endings
 
 -- a session that goes on heard no bad length of the store
-no_bad : (k : EntryKeys) (boot c : ℕ) (hs : List Heard) (s : Stand) (z : ℤ) → Ran k boot c hs s → s.ending ≡ None → bad_of_store hs ≡ Some z → ⊥
+pub no_bad : (k : EntryKeys) (boot c : ℕ) (hs : List Heard) (s : Stand) (z : ℤ) → Ran k boot c hs s → s.ending ≡ None → bad_of_store hs ≡ Some z → ⊥
 unfolding Ran TurnOf bad_of_store
 no_bad k boot c [] s z ran going e = some_none z (sym e)
 no_bad k boot c (bad_store y ∷ hs) s z (old, ran, t) going e = some_none _ (sym (ap (λ (x : Stand). x.ending) (goes k boot c old (bad_store y) s t).turn.1) ∙ going)
@@ -133,7 +133,7 @@ reached k boot c w r qs ms ns told hs s pulled waiting is talks quiet ran begun 
 as_long : (k : EntryKeys) (qs : List Question) (ms ns : List Message) → Talks k qs ms ns → length ms ≡ length ns
 as_long k qs ms ns silent = refl
 as_long k qs ms ns (told_event e f a ms' ns' i t) = ap suc (as_long k a ms' ns' t)
-as_long k qs ms ns (told_reply q r f a ms' ns' x z i t) = ap suc (as_long k a ms' ns' t)
+as_long k qs ms ns (told_reply q r f a ms' ns' x i t) = ap suc (as_long k a ms' ns' t)
 as_long k qs ms ns (told_session r a ms' ns' t) = ap suc (as_long k a ms' ns' t)
 
 empty_left : {A : Type 0} (xs : List A) → length xs ≡ 0 → xs ≡ []

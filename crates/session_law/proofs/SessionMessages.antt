@@ -136,7 +136,7 @@ pub came : (k : EntryKeys) (open_ : List Question) (plain left : List Message) (
 came k open_ plain left n rest silent e = absurd cc
 came k open_ plain left n rest (told_event a b q ms ns i h) e =
     came_event a b ms (first_is (messages.Event b) n ns rest e) refl i (subst (λ (l : List Message). Talks k q ms l) (rest_is (messages.Event b) n ns rest e) h)
-came k open_ plain left n rest (told_reply q a b qs ms ns x z i h) e =
+came k open_ plain left n rest (told_reply q a b qs ms ns x i h) e =
     came_reply q a b qs ms (first_is (messages.Reply b) n ns rest e) refl refl x i (subst (λ (l : List Message). Talks k qs ms l) (rest_is (messages.Reply b) n ns rest e) h)
 came k open_ plain left n rest (told_session a q ms ns h) e =
     came_session a ms (first_is (messages.Connected a) n ns rest e) refl (subst (λ (l : List Message). Talks k q ms l) (rest_is (messages.Connected a) n ns rest e) h)

@@ -28,7 +28,7 @@ use Rattle.session_law.specs.Law.{AreBehind, IsHonestEnd}
 use Rattle.session_law.proofs.Words.{SpellsFront, IsBegun, IsOrderly, unheard, heard}
 use Rattle.session_law.proofs.SessionStands.{Reached}
 use Rattle.session_law.proofs.SessionSides.{whole_frames, front_spelled, honest_length}
-use Rattle.session_law.proofs.OneSession.{reached, none_left}
+use Rattle.session_law.proofs.OneSession.{no_bad, reached, none_left}
 
 -- ---- what was told
 
