@@ -26,7 +26,7 @@ one_veiled k boot c sealed end next [] (x ∷ vs) i v h j = absurd h
 one_veiled k boot c sealed end next (x ∷ is) [] i v h j = absurd h
 one_veiled k boot c sealed end next (x ∷ is) (y ∷ vs) i v h j = (h.0, h.1, one_veiled k boot c h.0 end next is vs i v h.2 j)
 
-whole_veiled : (k : EntryKeys) (boot c sealed end : ℕ) (is vs : List Item) → VeilsUpTo k boot c sealed is vs end → VeilsFrom k boot c sealed is vs
+pub whole_veiled : (k : EntryKeys) (boot c sealed end : ℕ) (is vs : List Item) → VeilsUpTo k boot c sealed is vs end → VeilsFrom k boot c sealed is vs
 unfolding VeilsUpTo VeilsFrom
 whole_veiled k boot c sealed end [] [] h = refl
 whole_veiled k boot c sealed end [] (v ∷ vs) h = absurd h

@@ -235,3 +235,19 @@ fills_more [] sent whole more [] h e = tt
 fills_more [] sent whole more (f ∷ fs) h e = absurd h
 fills_more (x ∷ es) sent whole more [] h e = absurd h
 fills_more (x ∷ es) sent whole more (f ∷ fs) h e = (fills_first x sent whole more f h.0 e, fills_more es (left_after x sent) (left_after x whole) more fs h.1 (fills_rest x sent whole more f h.0 e))
+
+-- a filled order has as many items of each connection as the store's
+more_items : (b : Bool) (i v : Item) (is vs : List Item) → length is ≡ length vs → length (cond b (i ∷ is) is) ≡ length (cond b (v ∷ vs) vs)
+more_items true i v is vs e = ap suc e
+more_items false i v is vs e = e
+
+pub same_number : (k : EntryKeys) (c : ℕ) (es fs : List Entry) → Zips (VeilsEntry k) es fs → length (items_in c es) ≡ length (items_in c fs)
+unfolding Zips VeilsEntry items_in
+same_number k c [] [] h = refl
+same_number k c [] (f ∷ fs) h = absurd h
+same_number k c (e ∷ es) [] h = absurd h
+same_number k c (Take d xid r zxid now ∷ es) (Take d' x' v' z' n' ∷ fs) h = subst (λ (x : ℕ). length (items_in c (Take d xid r zxid now ∷ es)) ≡ length (items_in c (Take x x' v' z' n' ∷ fs))) h.0.0 (more_items (c == d) (items.Requests xid r) (items.Requests x' v') (items_in c es) (items_in c fs) (same_number k c es fs h.1))
+same_number k c (Take d xid r zxid now ∷ es) (f ∷ fs) h = absurd h.0
+same_number k c (Connect d asked session timeout password zxid now ∷ es) (f ∷ fs) h = subst (λ (x : Entry). length (items_in c (Connect d asked session timeout password zxid now ∷ es)) ≡ length (items_in c (x ∷ fs))) h.0 (more_items (c == d) (items.Asks asked) (items.Asks asked) (items_in c es) (items_in c fs) (same_number k c es fs h.1))
+same_number k c (Lost d ∷ es) (f ∷ fs) h = subst (λ (x : Entry). length (items_in c es) ≡ length (items_in c (x ∷ fs))) h.0 (same_number k c es fs h.1)
+same_number k c (Expire session zxid now ∷ es) (f ∷ fs) h = subst (λ (x : Entry). length (items_in c es) ≡ length (items_in c (x ∷ fs))) h.0 (same_number k c es fs h.1)

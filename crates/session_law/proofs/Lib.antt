@@ -17,3 +17,4 @@ pub mod Ends
 pub mod Fits
 pub mod Told
 pub mod Joined
+pub mod Served

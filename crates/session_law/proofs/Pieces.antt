@@ -25,6 +25,11 @@ unfolding AreWhole
 whole_front [] bs h = tt
 whole_front (x ∷ xs) bs h = (h.0, whole_front xs bs h.1)
 
+pub whole_back : (xs bs : List (List ℕ)) → AreWhole (xs ++ bs) → AreWhole bs
+unfolding AreWhole
+whole_back [] bs h = h
+whole_back (x ∷ xs) bs h = whole_back xs bs h.1
+
 -- frames whose bytes begin with those of other frames begin with these
 pub record BeginsWithFrames (up bs : List (List ℕ)) (z : List ℕ) : Type 0 where
   pub rest : List (List ℕ)
@@ -84,6 +89,16 @@ pub no_messages : (ms : List Message) (z : List ℕ) → Messages ms z → IsRes
 unfolding Messages
 no_messages [] z h r = h
 no_messages (m ∷ ms) z (body, more, spelled, fits, cut, others) r = absurd (r body more fits cut)
+
+pub messages_none : (ms : List Message) → Messages ms [] → ms ≡ []
+unfolding Messages
+messages_none [] h = refl
+messages_none (m ∷ ms) (body, more, spelled, fits, cut, others) = absurd (frame_filled body more (sym cut))
+
+pub messages_none_bytes : (ms : List Message) (z : List ℕ) → ms ≡ [] → Messages ms z → z ≡ []
+unfolding Messages
+messages_none_bytes [] z e h = h
+messages_none_bytes (m ∷ ms) z e h = absurd cc
 
 -- the bodies of the first messages are the first of their bytes
 pub record Received (left : List Message) (bodies : List (List ℕ)) (bytes : List ℕ) : Type 0 where
