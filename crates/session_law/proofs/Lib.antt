@@ -18,3 +18,4 @@ pub mod Fits
 pub mod Told
 pub mod Joined
 pub mod Served
+pub mod Holds
