@@ -4,6 +4,7 @@ pub mod SessionStands
 pub mod SessionFrames
 pub mod SessionSides
 pub mod OneSession
+pub mod SessionUnheard
 pub mod Orders
 pub mod Filling
 pub mod Begun

@@ -55,7 +55,7 @@ grown_on old new final more g e = (g.0 ++ more, e ∙ ap (λ (l : List Item). l 
 -- ---- endings
 
 -- a session that goes on heard no bad length of the store
-no_bad : (k : EntryKeys) (boot c : ℕ) (hs : List Heard) (s : Stand) (z : ℤ) → Ran k boot c hs s → s.ending ≡ None → bad_of_store hs ≡ Some z → ⊥
+pub no_bad : (k : EntryKeys) (boot c : ℕ) (hs : List Heard) (s : Stand) (z : ℤ) → Ran k boot c hs s → s.ending ≡ None → bad_of_store hs ≡ Some z → ⊥
 unfolding Ran TurnOf bad_of_store
 no_bad k boot c [] s z ran going e = some_none z (sym e)
 no_bad k boot c (bad_store y ∷ hs) s z (old, ran, t) going e = some_none _ (sym (ap (λ (x : Stand). x.ending) (goes k boot c old (bad_store y) s t).turn.1) ∙ going)
@@ -64,7 +64,7 @@ no_bad k boot c (from_store body ∷ hs) s z ran going e = some_none z (sym e)
 no_bad k boot c (bad_client y ∷ hs) s z ran going e = some_none z (sym e)
 no_bad k boot c (given n ∷ hs) s z ran going e = some_none z (sym e)
 
-given_honest : (e : Ending) → IsGivenEnding e → IsHonestEnd (Some e)
+pub given_honest : (e : Ending) → IsGivenEnding e → IsHonestEnd (Some e)
 unfolding IsGivenEnding IsHonestEnd
 given_honest endings.ClientEnd g = g
 given_honest endings.StoreEnd g = g
@@ -73,7 +73,7 @@ given_honest endings.StoreFault g = g
 given_honest endings.Turns g = g
 given_honest e g = absurd g
 
-given_open : (e : Ending) → IsGivenEnding e → e ≡ endings.Closed → ⊥
+pub given_open : (e : Ending) → IsGivenEnding e → e ≡ endings.Closed → ⊥
 unfolding IsGivenEnding
 given_open e g i = subst IsGivenEnding i g
 
