@@ -331,7 +331,7 @@ moved_none : (c d : ℕ) (timeout now : ℤ) (x : Session) → (d == c) ≡ fals
 unfolding has_connection moved_to
 moved_none c d timeout now x e = e
 
-no_connection_none : (c : ℕ) (x : Session) → has_connection c (record x { connection = None }) ≡ false
+pub no_connection_none : (c : ℕ) (x : Session) → has_connection c (record x { connection = None }) ≡ false
 unfolding has_connection
 no_connection_none c x = refl
 

@@ -36,7 +36,7 @@ use Rattle.sealed_machine.proofs.Answering.{asked_of}
 
 -- ---- numbers
 
-flipped : (a b : ℕ) → (a == b) ≡ (b == a)
+pub flipped : (a b : ℕ) → (a == b) ≡ (b == a)
 flipped a b = elim (cases_Bool (a == b)) [
   | inl t ↦ t ∙ sym (eq-eqb b a (sym (eqb-true a b t)))
   | inr f ↦ elim (cases_Bool (b == a)) [
@@ -45,7 +45,7 @@ flipped a b = elim (cases_Bool (a == b)) [
   ]
 ]
 
-not_same : (a b : ℕ) → a ≢ b → (a == b) ≡ false
+pub not_same : (a b : ℕ) → a ≢ b → (a == b) ≡ false
 not_same a b f = elim (cases_Bool (a == b)) [ inl t ↦ absurd (f (eqb-true a b t)) | inr e ↦ e ]
 
 -- ---- xids
@@ -78,7 +78,7 @@ take_in c d xid r a now session s qs is live h f j =
     (subst (λ (b : Bool). AreAsked (asked_if b (record { xid = xid; asked = asked_of a }) ++ qs) (cond (c == d) (items.Requests xid r ∷ is) is)) (flipped c d)
     (take_asked (c == d) xid r a qs is h f j))
 
-other_items : (b : Bool) (i : Item) (is : List Item) → b ≡ false → cond b (i ∷ is) is ≡ is
+pub other_items : (b : Bool) (i : Item) (is : List Item) → b ≡ false → cond b (i ∷ is) is ≡ is
 other_items true i is e = absurd cc
 other_items false i is e = refl
 
@@ -100,21 +100,21 @@ rest_fit c (Connect d asked session timeout password zxid now) es x = fit_rest (
 rest_fit c (Lost d) es x = x
 rest_fit c (Expire session zxid now) es x = x
 
-no_connect_act : (c : ℕ) (e : Entry) (es : List Entry) (f : Act) → HasNoConnect c (e ∷ es) → IsAct e f → IsNoConnect c f
+pub no_connect_act : (c : ℕ) (e : Entry) (es : List Entry) (f : Act) → HasNoConnect c (e ∷ es) → IsAct e f → IsNoConnect c f
 unfolding HasNoConnect IsAct IsNoConnect
 no_connect_act c (Take d xid r zxid now) es f n a = subst (IsNoConnect c) (sym a.is) tt
 no_connect_act c (Connect d asked session timeout password zxid now) es f n a = subst (IsNoConnect c) (sym a) (not_same d c n.0)
 no_connect_act c (Lost d) es f n a = subst (IsNoConnect c) (sym a) tt
 no_connect_act c (Expire session zxid now) es f n a = subst (IsNoConnect c) (sym a) tt
 
-no_connect_rest : (c : ℕ) (e : Entry) (es : List Entry) → HasNoConnect c (e ∷ es) → HasNoConnect c es
+pub no_connect_rest : (c : ℕ) (e : Entry) (es : List Entry) → HasNoConnect c (e ∷ es) → HasNoConnect c es
 unfolding HasNoConnect
 no_connect_rest c (Take d xid r zxid now) es n = n
 no_connect_rest c (Connect d asked session timeout password zxid now) es n = n.1
 no_connect_rest c (Lost d) es n = n
 no_connect_rest c (Expire session zxid now) es n = n
 
-once_rest : (e : Entry) (es : List Entry) → ConnectsOnce (e ∷ es) → ConnectsOnce es
+pub once_rest : (e : Entry) (es : List Entry) → ConnectsOnce (e ∷ es) → ConnectsOnce es
 unfolding ConnectsOnce
 once_rest (Take d xid r zxid now) es n = n
 once_rest (Connect d asked session timeout password zxid now) es n = n.1
@@ -166,13 +166,13 @@ no_session c d s n m t = none_live m.session (sym m.live ∙ ap (λ (x : ℕ). s
     none_live : (z : ℤ) → Some z ≡ None → ⊥
     none_live z e = cc
 
-asked_other : (c d : ℕ) (q : Question) (o : Option ℤ) → (d == c) ≡ false → asked_with c d q o ≡ []
+pub asked_other : (c d : ℕ) (q : Question) (o : Option ℤ) → (d == c) ≡ false → asked_with c d q o ≡ []
 unfolding asked_with asked_if
 asked_other c d q None e = refl
 asked_other c d q (Some z) e = ap (λ (b : Bool). asked_if b q) e
 
 -- of an entry that is not this connection's
-others_act : (c : ℕ) (passwords : ℤ → List ℕ) (s : State) (e : Entry) (f : Act) → NoTrace c s → IsAct e f → MayCome passwords s e → IsNoConnect c f → IsOthers c f
+pub others_act : (c : ℕ) (passwords : ℤ → List ℕ) (s : State) (e : Entry) (f : Act) → NoTrace c s → IsAct e f → MayCome passwords s e → IsNoConnect c f → IsOthers c f
 unfolding IsAct MayCome IsNoConnect IsOthers
 others_act c passwords s (Take d xid r zxid now) f n a m i = subst (IsOthers c) (sym a.is) (elim (cases_Bool (d == c)) [ inl t ↦ absurd (no_session c d s n m t) | inr e ↦ e ])
 others_act c passwords s (Connect d asked session timeout password zxid now) f n a m i = subst (IsOthers c) (sym a) (subst (IsNoConnect c) a i)
@@ -180,7 +180,7 @@ others_act c passwords s (Lost d) f n a m i = subst (IsOthers c) (sym a) tt
 others_act c passwords s (Expire session zxid now) f n a m i = subst (IsOthers c) (sym a) tt
 
 -- it asks nothing and has no item
-others_asked : (c : ℕ) (s : State) (f : Act) → IsOthers c f → asked_in c s f ≡ []
+pub others_asked : (c : ℕ) (s : State) (f : Act) → IsOthers c f → asked_in c s f ≡ []
 unfolding IsOthers asked_in asked_with asked_if
 others_asked c s (asking d xid a now) i = go (session_of d s.sessions)
   where
@@ -190,14 +190,14 @@ others_asked c s (connects d asked given now) i = refl
 others_asked c s (loses d) i = refl
 others_asked c s (expires session now) i = refl
 
-others_items : (c : ℕ) (e : Entry) (es : List Entry) (f : Act) → IsAct e f → IsOthers c f → items_in c (e ∷ es) ≡ items_in c es
+pub others_items : (c : ℕ) (e : Entry) (es : List Entry) (f : Act) → IsAct e f → IsOthers c f → items_in c (e ∷ es) ≡ items_in c es
 unfolding IsAct IsOthers items_in
 others_items c (Take d xid r zxid now) es f a i = other_items (c == d) _ (items_in c es) (flipped c d ∙ subst (IsOthers c) a.is i)
 others_items c (Connect d asked session timeout password zxid now) es f a i = other_items (c == d) _ (items_in c es) (flipped c d ∙ subst (IsOthers c) a i)
 others_items c (Lost d) es f a i = refl
 others_items c (Expire session zxid now) es f a i = refl
 
-own_items : (b : Bool) (i : Item) (is : List Item) → b ≡ true → cond b (i ∷ is) is ≡ i ∷ is
+pub own_items : (b : Bool) (i : Item) (is : List Item) → b ≡ true → cond b (i ∷ is) is ≡ i ∷ is
 own_items true i is e = refl
 own_items false i is e = absurd cc
 

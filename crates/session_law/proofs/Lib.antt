@@ -8,3 +8,7 @@ pub mod SessionUnheard
 pub mod Orders
 pub mod Filling
 pub mod Begun
+pub mod Held
+pub mod Closing
+pub mod OneBody
+pub mod Pieces
