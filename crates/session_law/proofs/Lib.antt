@@ -1,4 +1,6 @@
 pub mod Words
+pub mod OneBody
+pub mod Pieces
 pub mod SessionMessages
 pub mod SessionStands
 pub mod SessionFrames
@@ -10,5 +12,3 @@ pub mod Filling
 pub mod Begun
 pub mod Held
 pub mod Closing
-pub mod OneBody
-pub mod Pieces

@@ -1,5 +1,5 @@
 -- A session to which the store told nothing hands nothing down.
-use Rattle.std.proofs.Common.{◌≡◌, ℕ, ℤ, pos, ◌<ℤ◌, List, [], ◌∷◌, ◌++◌, Option, Some, None, refl, sym, subst, ◌∙◌}
+use Rattle.std.proofs.Common.{◌≡◌, ℕ, ℤ, pos, ◌<ℤ◌, List, [], ◌∷◌, ◌++◌, Some, refl, sym, subst}
 use Rattle.payload_seal.specs.declared.keys.EntryKeys.{EntryKeys}
 use Rattle.tree_state.specs.declared.message.Message.{Message}
 use Rattle.tree_server.specs.Messages.{Messages}
