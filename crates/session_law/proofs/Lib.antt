@@ -1,8 +1,11 @@
 pub mod Words
+pub mod OneBody
+pub mod Pieces
 pub mod SessionMessages
 pub mod SessionStands
 pub mod SessionFrames
 pub mod SessionSides
+pub mod SessionUnheard
 pub mod OneSession
 pub mod Orders
 pub mod Filling
@@ -10,8 +13,6 @@ pub mod Begun
 pub mod InOrder
 pub mod Held
 pub mod Closing
-pub mod OneBody
-pub mod Pieces
 pub mod UpWhole
 pub mod Ends
 pub mod Fits

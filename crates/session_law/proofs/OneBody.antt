@@ -27,6 +27,7 @@ some_shape (outcomes.Acls d p) = (shapes.Acls, tt)
 some_shape (outcomes.Children d) = (shapes.Children, tt)
 some_shape (outcomes.Children2 d p) = (shapes.Children2, tt)
 some_shape (outcomes.Multi d) = (shapes.Multi, tt)
+some_shape (outcomes.Created2 p s) = (shapes.Created2, tt)
 
 one_answer : (r : Reply) (a b : List ℕ) → IsReply r a → IsReply r b → a ≡ b
 one_answer r a b h j = let x = some_shape r.outcome in one_reply_spelling x.0 r a b (h x.0 x.1) (j x.0 x.1)

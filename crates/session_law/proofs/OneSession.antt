@@ -64,7 +64,7 @@ no_bad k boot c (from_store body ∷ hs) s z ran going e = some_none z (sym e)
 no_bad k boot c (bad_client y ∷ hs) s z ran going e = some_none z (sym e)
 no_bad k boot c (given n ∷ hs) s z ran going e = some_none z (sym e)
 
-given_honest : (e : Ending) → IsGivenEnding e → IsHonestEnd (Some e)
+pub given_honest : (e : Ending) → IsGivenEnding e → IsHonestEnd (Some e)
 unfolding IsGivenEnding IsHonestEnd
 given_honest endings.ClientEnd g = g
 given_honest endings.StoreEnd g = g
@@ -73,7 +73,7 @@ given_honest endings.StoreFault g = g
 given_honest endings.Turns g = g
 given_honest e g = absurd g
 
-given_open : (e : Ending) → IsGivenEnding e → e ≡ endings.Closed → ⊥
+pub given_open : (e : Ending) → IsGivenEnding e → e ≡ endings.Closed → ⊥
 unfolding IsGivenEnding
 given_open e g i = subst IsGivenEnding i g
 

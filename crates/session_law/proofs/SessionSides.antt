@@ -1,16 +1,15 @@
 -- The store's frames that a session heard, beside the messages that the store's bytes spell.
-use Rattle.std.proofs.Common.{◌≡◌, ◌⊎◌, ℕ, suc, ℤ, pos, ◌<◌, ◌≤◌, ◌<ℤ◌, ◌^◌, List, [], ◌∷◌, ◌++◌, Option, Some, None, IfSome, inl, inr, length, refl, sym, ap, subst, ◌∙◌, arith, length-append, append_assoc, append-nil}
+use Rattle.std.proofs.Common.{◌≡◌, ◌⊎◌, ℕ, ℤ, pos, ◌<◌, ◌≤◌, ◌<ℤ◌, ◌^◌, List, [], ◌∷◌, ◌++◌, Option, Some, None, IfSome, inl, inr, length, refl, sym, ap, subst, ◌∙◌, arith, length-append, append_assoc, append-nil}
 use Rattle.std.proofs.lemmas.Int.{ints}
 use Rattle.std.specs.Int.{w32}
 use Rattle.std.specs.Int.RustNames.{FitsSigned}
 use Rattle.jute_core.specs.Frames.{frame, FitsFrame, IsRest}
 use Rattle.jute_core.specs.Jute.{IsInt, int_bytes}
 use Rattle.jute_core.proofs.OneSpelling.{ints_apart}
-use Rattle.jute_core.proofs.OneStream.{one_frame}
 use Rattle.payload_seal.specs.declared.keys.EntryKeys.{EntryKeys}
 use Rattle.zk_frame.specs.Framing.{IsTooLong}
 use Rattle.tree_state.specs.declared.message.Message.{Message}
-use Rattle.tree_server.specs.Messages.{SpellsMessage, Messages}
+use Rattle.tree_server.specs.Messages.{Messages}
 use Rattle.entry_session.specs.Heard.{Heard, from_client, from_store, bad_client, bad_store, given, store_frames}
 use Rattle.entry_session.specs.Runs.{store_limit, TurnOf, Ran}
 use Rattle.entry_session.specs.Sides.{bytes_of, IsSide}
@@ -18,6 +17,7 @@ use Rattle.entry_session.specs.Stands.{Stand}
 use Rattle.entry_session.specs.declared.ending.Ending.{Ending}
 use Rattle.entry_session.proofs.Turns.{goes}
 use Rattle.session_law.proofs.Words.{SpellsFront, AreWhole}
+use Rattle.session_law.proofs.Pieces.{spells_front, cut_messages}
 
 -- ---- the frames that a session hears are whole
 
@@ -38,34 +38,6 @@ pub whole_frames : (k : EntryKeys) (boot c : ℕ) (hs : List Heard) (s : Stand) 
 unfolding Ran AreWhole store_frames
 whole_frames k boot c [] s ran = tt
 whole_frames k boot c (h ∷ hs) s (old, ran, t) = turn_whole k boot c hs old h s (goes k boot c old h s t).turn (whole_frames k boot c hs old ran)
-
--- ---- the frames, and the messages
-
-pub frame_filled : (b x : List ℕ) → frame b ++ x ≡ [] → ⊥
-unfolding frame
-frame_filled b x e = absurd cc
-
-next_cut : (b : List ℕ) (bs : List (List ℕ)) (bytes rest : List ℕ) → bytes ≡ bytes_of (b ∷ bs) ++ rest → bytes ≡ frame b ++ (bytes_of bs ++ rest)
-next_cut b bs bytes rest e = e ∙ append_assoc (frame b) (bytes_of bs) rest
-
--- the frames are the first of the messages
-pub spells_front : (ms : List Message) (bs : List (List ℕ)) (bytes rest : List ℕ) → AreWhole bs → Messages ms bytes → bytes ≡ bytes_of bs ++ rest → SpellsFront ms bs
-unfolding SpellsFront Messages AreWhole
-spells_front ms [] bytes rest w h e = tt
-spells_front [] (b ∷ bs) bytes rest w h e = absurd (frame_filled b (bytes_of bs ++ rest) (sym (next_cut b bs bytes rest e) ∙ h))
-spells_front (m ∷ ms) (b ∷ bs) bytes rest w (body, more, spelled, fits, cut, others) e =
-    let both = one_frame body b more (bytes_of bs ++ rest) fits w.0 (sym cut ∙ next_cut b bs bytes rest e) in
-    (subst (λ (x : List ℕ). SpellsMessage m x) both.0 spelled, spells_front ms bs more rest w.1 others both.1)
-
--- and all of them, where no whole frame is left
-all_heard_by : (ms : List Message) (bs : List (List ℕ)) (bytes rest : List ℕ) → AreWhole bs → Messages ms bytes → bytes ≡ bytes_of bs ++ rest → IsRest rest → length ms ≡ length bs
-unfolding Messages AreWhole
-all_heard_by [] [] bytes rest w h e partial = refl
-all_heard_by [] (b ∷ bs) bytes rest w h e partial = absurd (frame_filled b (bytes_of bs ++ rest) (sym (next_cut b bs bytes rest e) ∙ h))
-all_heard_by (m ∷ ms) [] bytes rest w (body, more, spelled, fits, cut, others) e partial = absurd (partial body more fits (sym e ∙ cut))
-all_heard_by (m ∷ ms) (b ∷ bs) bytes rest w (body, more, spelled, fits, cut, others) e partial =
-    let both = one_frame body b more (bytes_of bs ++ rest) fits w.0 (sym cut ∙ next_cut b bs bytes rest e) in
-    ap suc (all_heard_by ms bs more rest w.1 others both.1 partial)
 
 -- ---- the length of a frame that was refused
 
@@ -88,15 +60,17 @@ above : (z : ℤ) (n limit : ℕ) → z ≡ pos n → (z <ℤ pos 0) ⊎ (pos li
 above z n limit e (inl l) = absurd (omega (arith, ints, e, l))
 above z n limit e (inr l) = l
 
-too_long_by : (ms : List Message) (bs : List (List ℕ)) (bytes rest waiting : List ℕ) (z : ℤ) → AreWhole bs → Messages ms bytes → bytes ≡ bytes_of bs ++ (rest ++ waiting) → IsTooLong store_limit rest z → pos store_limit <ℤ z
-unfolding Messages AreWhole
-too_long_by [] [] bytes rest waiting z w h e long = absurd (not_empty z long.prefix (long.more ++ waiting) long.named (sym h ∙ e ∙ ap (λ l. l ++ waiting) long.begins ∙ append_assoc long.prefix long.more waiting))
-too_long_by [] (b ∷ bs) bytes rest waiting z w h e long = absurd (frame_filled b (bytes_of bs ++ (rest ++ waiting)) (sym (next_cut b bs bytes (rest ++ waiting) e) ∙ h))
-too_long_by (m ∷ ms) [] bytes rest waiting z w (body, more, spelled, fits, cut, others) e long =
-    above z (length body) store_limit (named_length z long.prefix (long.more ++ waiting) body more long.named fits (sym (append_assoc long.prefix long.more waiting) ∙ sym (ap (λ l. l ++ waiting) long.begins) ∙ sym e ∙ cut)) long.beyond
-too_long_by (m ∷ ms) (b ∷ bs) bytes rest waiting z w (body, more, spelled, fits, cut, others) e long =
-    let both = one_frame body b more (bytes_of bs ++ (rest ++ waiting)) fits w.0 (sym cut ∙ next_cut b bs bytes (rest ++ waiting) e) in
-    too_long_by ms bs more rest waiting z w.1 others both.1 long
+refused_length : (left : List Message) (rest waiting : List ℕ) (z : ℤ) → Messages left (rest ++ waiting) → IsTooLong store_limit rest z → pos store_limit <ℤ z
+unfolding Messages
+refused_length [] rest waiting z h long = absurd (not_empty z long.prefix (long.more ++ waiting) long.named (sym h ∙ ap (λ l. l ++ waiting) long.begins ∙ append_assoc long.prefix long.more waiting))
+refused_length (m ∷ left) rest waiting z (body, more, spelled, fits, cut, others) long =
+    above z (length body) store_limit (named_length z long.prefix (long.more ++ waiting) body more long.named fits (sym (append_assoc long.prefix long.more waiting) ∙ sym (ap (λ l. l ++ waiting) long.begins) ∙ cut)) long.beyond
+
+-- a part of a frame is no message
+no_message : (left : List Message) (rest : List ℕ) → Messages left rest → IsRest rest → left ≡ []
+unfolding Messages
+no_message [] rest h partial = refl
+no_message (m ∷ left) rest (body, more, spelled, fits, cut, others) partial = absurd (partial body more fits cut)
 
 -- ---- one side, beside the bytes that were pulled and those that wait
 
@@ -109,9 +83,13 @@ front_spelled told bodies bad o pulled waiting w h side = spells_front told bodi
 -- where the session goes on and nothing waits, it heard all messages
 pub all_heard : (told : List Message) (bodies : List (List ℕ)) (bad : Option ℤ) (o : Option Ending) (pulled waiting : List ℕ) → AreWhole bodies → Messages told (pulled ++ waiting) → IsSide store_limit bodies bad o pulled → o ≡ None → waiting ≡ [] → length told ≡ length bodies
 all_heard told bodies bad o pulled waiting w h side going none =
-    all_heard_by told bodies (pulled ++ waiting) side.rest w h (behind_pulled bodies bad o pulled waiting side ∙ ap (λ l. bytes_of bodies ++ (side.rest ++ l)) none ∙ ap (λ l. bytes_of bodies ++ l) (append-nil side.rest)) (side.partial going)
+    let x = cut_messages told bodies (pulled ++ waiting) (side.rest ++ waiting) w h (behind_pulled bodies bad o pulled waiting side) in
+    let nothing : side.rest ++ waiting ≡ side.rest = ap (λ l. side.rest ++ l) none ∙ append-nil side.rest in
+    let no_more = no_message x.left side.rest (subst (Messages x.left) nothing x.after) (side.partial going) in
+    ap length (x.cut ∙ ap (λ l. x.done ++ l) no_more ∙ append-nil x.done) ∙ x.count
 
 -- a length that was refused is above the limit
 pub honest_length : (told : List Message) (bodies : List (List ℕ)) (bad : Option ℤ) (o : Option Ending) (pulled waiting : List ℕ) → AreWhole bodies → Messages told (pulled ++ waiting) → IsSide store_limit bodies bad o pulled → (z : ℤ) → bad ≡ Some z → pos store_limit <ℤ z
 honest_length told bodies bad o pulled waiting w h side z e =
-    too_long_by told bodies (pulled ++ waiting) side.rest waiting z w h (behind_pulled bodies bad o pulled waiting side) (subst (λ (x : Option ℤ). IfSome x (λ y. IsTooLong store_limit side.rest y)) e side.named)
+    let x = cut_messages told bodies (pulled ++ waiting) (side.rest ++ waiting) w h (behind_pulled bodies bad o pulled waiting side) in
+    refused_length x.left side.rest waiting z x.after (subst (λ (v : Option ℤ). IfSome v (λ y. IsTooLong store_limit side.rest y)) e side.named)
