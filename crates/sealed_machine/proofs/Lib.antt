@@ -1,4 +1,5 @@
 pub mod SealedNames
+pub mod SealedNaming
 pub mod SealedPaths
 pub mod SealedStates
 pub mod SealedChanges
@@ -14,3 +15,4 @@ pub mod SealedRequests
 pub mod KeptRequests
 pub mod NoTrace
 pub mod FirstAnswers
+pub mod EachLaw

@@ -30,7 +30,7 @@ use Rattle.std.proofs.lemmas.Option.{none-some}
 use Rattle.zk_messages.specs.Refuses.{ArePaths}
 use Rattle.zk_messages.proofs.FirstRules.{one_outcome}
 use Rattle.tree_server.proofs.Zipping.{Zips}
-use Rattle.sealed_machine.proofs.SealedNames.{sealed_legal, sealed_stem}
+use Rattle.sealed_machine.proofs.SealedNames.{sealed_child, stem_text, sealed_legal, sealed_stem}
 use Rattle.sealed_machine.proofs.SealedStates.{Holds, Seals}
 use Rattle.sealed_machine.proofs.SealedChanges.{IsLast, IsGiven, VeilsChange, VeilsCreate}
 unfoldable pub use Rattle.sealed_machine.specs.Veils.{IsBelow}
@@ -122,9 +122,12 @@ last_of text n p true h = (h.0.1, h.0.0)
 last_of text n p false h = (All-tail IsComponent n p h.legal, All-head IsComponent n p h.legal)
 
 named_sealed : (k : Keys) → AreKeys k → (v : List ℕ) (n : List ℕ) (p : Path) (q : Bool) → IsPath p → IsLast q n → v ≡ SealNameOf k q (n ∷ p) → IsNamed q v (SealName k p n ∷ sealed k p)
-unfolding IsNamed IsLast SealNameOf sealed
-named_sealed k w v n p true hp h e = (sealed_stem k p n w h hp, e)
-named_sealed k w v n p false hp h e = record { legal = sealed_legal k (n ∷ p) w (All-cons IsComponent n p h hp); spelled = e }
+unfolding IsNamed IsLast SealNameOf
+named_sealed k w v n p true hp h e = (sealed_stem k p n w h hp, e ∙ stem_text k p n)
+named_sealed k w v n p false hp h e = record {
+  legal = subst IsPath (sealed_child k p n) (sealed_legal k (n ∷ p) w (All-cons IsComponent n p h hp));
+  spelled = e ∙ ap text_of (sealed_child k p n);
+}
 
 pub sealed_create : (k : EntryKeys) → AreKeys k.names → (ivs : List (List ℕ)) (r v : CreateRequest) (p : Path) (n : List ℕ) (d : Option (List ℕ)) (q e : Bool) → All (IsIvOf k.payloads) ivs → TextCreate k ivs r v → IsCreate r p n d q e → SealedCreate k r v p n d q e
 sealed_create k w ivs r v p n d q e good t h =
@@ -164,8 +167,7 @@ unfolding text_of
 text_of_root text e = e
 
 not_root_sealed : (k : Keys) (n : List ℕ) (p : Path) → sealed k (n ∷ p) ≡ [] → ⊥
-unfolding sealed
-not_root_sealed k n p e = cc
+not_root_sealed k n p e = let f : SealName k p n ∷ sealed k p ≡ [] = sym (sealed_child k p n) ∙ e in cc
 
 -- a sealed path is the root's only where the path is
 sealed_below : (k : Keys) (p : Path) (v : List ℕ) → IsBelow p → IsSealedText k p v → IsRootText v → ⊥
