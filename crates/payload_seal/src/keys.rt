@@ -18,7 +18,8 @@ const LATER_EPOCHS: usize = 255;
 /// What payloads are sealed under: 1 to 256 keys of 16 bytes, one for each epoch from 0 on.
 /// Contracts see the list of the keys, that of epoch 0 first.
 ///
-/// The key of the greatest epoch is kept ready, so that a payload under it costs no key schedule. There is no `Debug`: it would print the keys.
+/// The key of the greatest epoch is kept ready, so that a payload under it costs no key schedule.
+/// There is no `Debug`: it would print the keys.
 #[derive(Clone, Copy)]
 pub struct PayloadKeys {
     // from epoch 0 on, and zeros above the greatest one
