@@ -1,4 +1,5 @@
 pub mod Product
+pub mod Tables
 pub mod Hashing
 pub mod Absorbing
 pub mod Counting

@@ -5,7 +5,6 @@ ghost use Rattle.gcm_mode.specs.Absorbed.{IsAbsorbed};
 ghost use Rattle.gcm_mode.specs.HashKey.{hash_key};
 ghost use Rattle.gcm_mode.specs.Ghash.{block_count, blocks, ghash};
 
-use crate::field::times;
 use crate::hash::{absorb_blocks, padded_block};
 use crate::key::GcmKey;
 
@@ -49,7 +48,8 @@ impl Absorbed {
         self.part[used..filled].copy_from_slice(front);
         self.length = self.length.wrapping_add(piece.len());
         if filled == 16 {
-            let full = times(self.hash ^ u128::from_be_bytes(self.part), key.hash_key());
+            let block = self.hash ^ u128::from_be_bytes(self.part);
+            let full = key.hash_key().times(block);
             self.hash = absorb_blocks(key.hash_key(), full, rest);
             self.part = padded_block(rest, rest.len() / 16);
         }
@@ -63,7 +63,8 @@ impl Absorbed {
         if self.length.is_multiple_of(16) {
             self.hash
         } else {
-            times(self.hash ^ u128::from_be_bytes(self.part), key.hash_key())
+            let block = self.hash ^ u128::from_be_bytes(self.part);
+            key.hash_key().times(block)
         }
     }
 }

@@ -3,18 +3,19 @@
 ghost use Rattle.std.specs.Prelude.{◌≡◌};
 ghost use Rattle.gcm_mode.specs.HashKey.{hash_key};
 
+use crate::table::HashTable;
 use aes_block::Key;
 use std::marker::Model;
 
 /// A key of 16 bytes, which is what contracts see of it.
 ///
-/// The round keys of AES and the hash key of GHASH are computed once, by [`GcmKey::new`], and no call
-/// that takes the key computes them again: keep one for each key. There is no `Debug`: it would
-/// print the key.
+/// The round keys of AES, the hash key of GHASH and the table of its products are made once, by
+/// [`GcmKey::new`], and no call that takes the key makes them again: keep one for each key. It has
+/// some 500 bytes, all of them in the value. There is no `Debug`: it would print the key.
 #[derive(Clone, Copy)]
 pub struct GcmKey {
     cipher: Key,
-    hash: u128,
+    hash: HashTable,
 }
 
 impl Model for GcmKey {
@@ -36,7 +37,7 @@ impl GcmKey {
         ensures { result ≡ bytes }
     {
         let cipher = Key::new(bytes);
-        let hash = u128::from_be_bytes(cipher.encrypt([0; 16]));
+        let hash = HashTable::new(u128::from_be_bytes(cipher.encrypt([0; 16])));
         GcmKey { cipher, hash }
     }
 
@@ -48,9 +49,9 @@ impl GcmKey {
     }
 
     /// The hash key.
-    pub(crate) fn hash_key(&self) -> u128
-        ensures { result ≡ hash_key self.now }
+    pub(crate) fn hash_key(&self) -> &HashTable
+        ensures { result.now ≡ hash_key self.now }
     {
-        self.hash
+        &self.hash
     }
 }

@@ -21,6 +21,7 @@ mod field;
 mod hash;
 mod key;
 mod sealing;
+mod table;
 
 pub use absorbed::Absorbed;
 pub use fault::GcmFault;

@@ -7,7 +7,6 @@ ghost use Rattle.gcm_mode.specs.Gcm.{Gcm, gcm_tag, passed_length, text_under};
 use crate::absorbed::Absorbed;
 use crate::counter::{counter_block, cover_from, push_piece, xor};
 use crate::fault::{GcmFault, passed_length};
-use crate::field::times;
 use crate::hash::absorb_text;
 use crate::key::GcmKey;
 
@@ -30,7 +29,7 @@ fn tag_of(key: &GcmKey, iv: &[u8; 12], absorbed: &Absorbed, text: &[u8]) -> [u8;
     let hash_key = key.hash_key();
     let hash = absorb_text(hash_key, absorbed.hash(key), text);
     let lengths = lengths_block(absorbed.length, text.len());
-    let whole = times(hash ^ lengths, hash_key);
+    let whole = hash_key.times(hash ^ lengths);
     xor(
         whole.to_be_bytes(),
         key.cipher().encrypt(counter_block(iv, 1)),

@@ -1,7 +1,7 @@
 use Rattle.std.proofs.Common.{◌≡◌, ◌<◌, ◌^◌}
 use Rattle.aes_block.specs.Polynomial.{product, remainder}
 use Rattle.gcm_mode.specs.Ghash.{bits, modulus}
-use Rattle.gcm_mode.proofs.field.times.Given as goal
+use Rattle.gcm_mode.proofs.field.low_times.Given as goal
 
 abbrev pub invariant-loop-i : goal.invariant-loop-i
 invariant-loop-i l = record {
