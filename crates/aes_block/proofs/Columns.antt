@@ -1,11 +1,10 @@
 -- The tables, computed over all 256 bytes, and words as bytes.
-use Rattle.std.proofs.Common.{◌≡◌, ◌≢◌, ℕ, zero, suc, ◌+◌, ◌*◌, ◌/◌, ◌%◌, ◌-◌, ◌^◌, ◌<◌, ◌≤◌, ◌==◌, Bool, true, List, [], ◌∷◌, ◌++◌, length, take, drop, slice_index, set, get_or, bit_and, bit_xor, refl, sym, ap, ◌∙◌, arith, add-one, inl, inr}
+use Rattle.std.proofs.Common.{◌≡◌, ◌≢◌, ℕ, zero, suc, ◌+◌, ◌*◌, ◌/◌, ◌%◌, ◌^◌, ◌<◌, ◌≤◌, ◌==◌, true, List, [], ◌∷◌, ◌++◌, length, take, drop, slice_index, set, get_or, bit_xor, refl, sym, ap, ◌∙◌, arith, inl, inr}
 use Rattle.std.proofs.lemmas.Bool.{cases_lt}
 use Rattle.std.proofs.lemmas.List.{length-append, take_more_set, get_or_push, get_or_append_left, at_drop_more, get_or-set_same, get_or-set_other, drop-drop}
 use Rattle.std.proofs.lemmas.Nat.{be_bytes_4}
 use Rattle.std.specs.Int.{w32, byte_at, from_be_bytes, to_be_bytes}
-use lib.Bits.{xor_shr, xor_mod, xor_comm, xor_assoc, xor_lt}
-use lib.Dec.{T, ltb, ltb→lt}
+use lib.Bits.{xor_shr, xor_mod, xor_comm, xor_assoc}
 use Rattle.aes_block.specs.Aes.{times, sub_byte, mixed, round_key, sub_bytes, shift_rows, mix_columns, add_round_key, after_rounds}
 use Rattle.aes_block.specs.Columns.{bytes_from, word_bytes, words_of, mixed_column, plus_word}
 use Rattle.aes_block.specs.declared.sbox.TheConstants.{SBOX}

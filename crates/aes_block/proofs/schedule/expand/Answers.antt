@@ -1,6 +1,5 @@
-use Rattle.std.proofs.Common.{rules, ◌≡◌, ◌∙◌, ◌*◌, ℕ, List, ap, sym, arith, take, length}
-use Rattle.aes_block.specs.Aes.{expanded}
-use Rattle.aes_block.proofs.Words.{front_size, kept_size, expanded_more, front_words, all_words, take-expanded}
+use Rattle.std.proofs.Common.{rules, ◌*◌, arith}
+use Rattle.aes_block.proofs.Words.{front_size, kept_size, expanded_more, front_words, all_words}
 use Rattle.aes_block.proofs.schedule.expand.Goals as goal
 
 pub loop-i-init : goal.loop-i-init

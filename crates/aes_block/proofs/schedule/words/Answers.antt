@@ -1,4 +1,4 @@
-use Rattle.std.proofs.Common.{◌≡◌, length, take, refl, sym, ◌∙◌, rules, arith}
+use Rattle.std.proofs.Common.{◌≡◌, refl, sym, ◌∙◌, rules, arith}
 use Rattle.std.proofs.lemmas.List.{take_all}
 use Rattle.aes_block.specs.Columns.{words_of}
 use Rattle.aes_block.proofs.Columns.{one_word, back_more}
