@@ -1,4 +1,4 @@
--- What is kept of a hash key: its products with the polynomials of four coefficients.
+-- What is kept of a hash key: its products with the polynomials of four coefficients, and of four that four others stand before.
 use Rattle.std.specs.Prelude.{ℕ, zero, suc, Bool, false, List, [], ◌∷◌, ◌++◌}
 use Rattle.aes_block.specs.Polynomial.{product, remainder, less_modulus}
 use Rattle.gcm_mode.specs.Ghash.{bits, modulus, number}
@@ -12,7 +12,7 @@ shifted (suc n) p = less_modulus modulus (false ∷ shifted n p)
 unfoldable pub low_times : ℕ → ℕ → ℕ → ℕ
 low_times k x y = number (remainder modulus (product (bits k x) (bits 128 y)))
 
--- the products of the first n numbers of four bits and of the block y
-unfoldable pub entries : ℕ → ℕ → List ℕ
-entries zero y = []
-entries (suc n) y = entries n y ++ low_times 4 n y ∷ []
+-- the products of the first n numbers, each as k bits, and of the block y
+unfoldable pub entries : ℕ → ℕ → ℕ → List ℕ
+entries k zero y = []
+entries k (suc n) y = entries k n y ++ low_times k n y ∷ []

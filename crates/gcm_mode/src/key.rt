@@ -11,7 +11,7 @@ use std::marker::Model;
 ///
 /// The round keys of AES, the hash key of GHASH and the table of its products are made once, by
 /// [`GcmKey::new`], and no call that takes the key makes them again: keep one for each key. It has
-/// some 500 bytes, all of them in the value. There is no `Debug`: it would print the key.
+/// some 700 bytes, all of them in the value. There is no `Debug`: it would print the key.
 #[derive(Clone, Copy)]
 pub struct GcmKey {
     cipher: Key,

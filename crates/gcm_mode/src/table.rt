@@ -1,49 +1,302 @@
 //! Products by a hash key that is known before (NIST SP 800-38D, section 6.3).
 
-ghost use Rattle.std.specs.Prelude.{◌≡◌};
+ghost use Rattle.std.specs.Prelude.{◌≡◌, ◌≤◌};
 ghost use Rattle.gcm_mode.specs.Ghash.{bits, times};
 ghost use Rattle.gcm_mode.specs.HashTable.{entries, shifted};
 
 use crate::field::low_times;
 use std::marker::Model;
 
-// The highest 64 bits of the product of x^4 and a block of which all but the lowest four bits, which
+// The highest 64 bits of the product of x^8 and a block of which all but the lowest eight bits, which
 // number the entry, are 0. The other 64 bits are 0.
-const REDUCTIONS: [u64; 16] = [
+const REDUCTIONS: [u64; 256] = [
     0x0000_0000_0000_0000,
+    0x01c2_0000_0000_0000,
+    0x0384_0000_0000_0000,
+    0x0246_0000_0000_0000,
+    0x0708_0000_0000_0000,
+    0x06ca_0000_0000_0000,
+    0x048c_0000_0000_0000,
+    0x054e_0000_0000_0000,
+    0x0e10_0000_0000_0000,
+    0x0fd2_0000_0000_0000,
+    0x0d94_0000_0000_0000,
+    0x0c56_0000_0000_0000,
+    0x0918_0000_0000_0000,
+    0x08da_0000_0000_0000,
+    0x0a9c_0000_0000_0000,
+    0x0b5e_0000_0000_0000,
     0x1c20_0000_0000_0000,
+    0x1de2_0000_0000_0000,
+    0x1fa4_0000_0000_0000,
+    0x1e66_0000_0000_0000,
+    0x1b28_0000_0000_0000,
+    0x1aea_0000_0000_0000,
+    0x18ac_0000_0000_0000,
+    0x196e_0000_0000_0000,
+    0x1230_0000_0000_0000,
+    0x13f2_0000_0000_0000,
+    0x11b4_0000_0000_0000,
+    0x1076_0000_0000_0000,
+    0x1538_0000_0000_0000,
+    0x14fa_0000_0000_0000,
+    0x16bc_0000_0000_0000,
+    0x177e_0000_0000_0000,
     0x3840_0000_0000_0000,
+    0x3982_0000_0000_0000,
+    0x3bc4_0000_0000_0000,
+    0x3a06_0000_0000_0000,
+    0x3f48_0000_0000_0000,
+    0x3e8a_0000_0000_0000,
+    0x3ccc_0000_0000_0000,
+    0x3d0e_0000_0000_0000,
+    0x3650_0000_0000_0000,
+    0x3792_0000_0000_0000,
+    0x35d4_0000_0000_0000,
+    0x3416_0000_0000_0000,
+    0x3158_0000_0000_0000,
+    0x309a_0000_0000_0000,
+    0x32dc_0000_0000_0000,
+    0x331e_0000_0000_0000,
     0x2460_0000_0000_0000,
+    0x25a2_0000_0000_0000,
+    0x27e4_0000_0000_0000,
+    0x2626_0000_0000_0000,
+    0x2368_0000_0000_0000,
+    0x22aa_0000_0000_0000,
+    0x20ec_0000_0000_0000,
+    0x212e_0000_0000_0000,
+    0x2a70_0000_0000_0000,
+    0x2bb2_0000_0000_0000,
+    0x29f4_0000_0000_0000,
+    0x2836_0000_0000_0000,
+    0x2d78_0000_0000_0000,
+    0x2cba_0000_0000_0000,
+    0x2efc_0000_0000_0000,
+    0x2f3e_0000_0000_0000,
     0x7080_0000_0000_0000,
+    0x7142_0000_0000_0000,
+    0x7304_0000_0000_0000,
+    0x72c6_0000_0000_0000,
+    0x7788_0000_0000_0000,
+    0x764a_0000_0000_0000,
+    0x740c_0000_0000_0000,
+    0x75ce_0000_0000_0000,
+    0x7e90_0000_0000_0000,
+    0x7f52_0000_0000_0000,
+    0x7d14_0000_0000_0000,
+    0x7cd6_0000_0000_0000,
+    0x7998_0000_0000_0000,
+    0x785a_0000_0000_0000,
+    0x7a1c_0000_0000_0000,
+    0x7bde_0000_0000_0000,
     0x6ca0_0000_0000_0000,
+    0x6d62_0000_0000_0000,
+    0x6f24_0000_0000_0000,
+    0x6ee6_0000_0000_0000,
+    0x6ba8_0000_0000_0000,
+    0x6a6a_0000_0000_0000,
+    0x682c_0000_0000_0000,
+    0x69ee_0000_0000_0000,
+    0x62b0_0000_0000_0000,
+    0x6372_0000_0000_0000,
+    0x6134_0000_0000_0000,
+    0x60f6_0000_0000_0000,
+    0x65b8_0000_0000_0000,
+    0x647a_0000_0000_0000,
+    0x663c_0000_0000_0000,
+    0x67fe_0000_0000_0000,
     0x48c0_0000_0000_0000,
+    0x4902_0000_0000_0000,
+    0x4b44_0000_0000_0000,
+    0x4a86_0000_0000_0000,
+    0x4fc8_0000_0000_0000,
+    0x4e0a_0000_0000_0000,
+    0x4c4c_0000_0000_0000,
+    0x4d8e_0000_0000_0000,
+    0x46d0_0000_0000_0000,
+    0x4712_0000_0000_0000,
+    0x4554_0000_0000_0000,
+    0x4496_0000_0000_0000,
+    0x41d8_0000_0000_0000,
+    0x401a_0000_0000_0000,
+    0x425c_0000_0000_0000,
+    0x439e_0000_0000_0000,
     0x54e0_0000_0000_0000,
+    0x5522_0000_0000_0000,
+    0x5764_0000_0000_0000,
+    0x56a6_0000_0000_0000,
+    0x53e8_0000_0000_0000,
+    0x522a_0000_0000_0000,
+    0x506c_0000_0000_0000,
+    0x51ae_0000_0000_0000,
+    0x5af0_0000_0000_0000,
+    0x5b32_0000_0000_0000,
+    0x5974_0000_0000_0000,
+    0x58b6_0000_0000_0000,
+    0x5df8_0000_0000_0000,
+    0x5c3a_0000_0000_0000,
+    0x5e7c_0000_0000_0000,
+    0x5fbe_0000_0000_0000,
     0xe100_0000_0000_0000,
+    0xe0c2_0000_0000_0000,
+    0xe284_0000_0000_0000,
+    0xe346_0000_0000_0000,
+    0xe608_0000_0000_0000,
+    0xe7ca_0000_0000_0000,
+    0xe58c_0000_0000_0000,
+    0xe44e_0000_0000_0000,
+    0xef10_0000_0000_0000,
+    0xeed2_0000_0000_0000,
+    0xec94_0000_0000_0000,
+    0xed56_0000_0000_0000,
+    0xe818_0000_0000_0000,
+    0xe9da_0000_0000_0000,
+    0xeb9c_0000_0000_0000,
+    0xea5e_0000_0000_0000,
     0xfd20_0000_0000_0000,
+    0xfce2_0000_0000_0000,
+    0xfea4_0000_0000_0000,
+    0xff66_0000_0000_0000,
+    0xfa28_0000_0000_0000,
+    0xfbea_0000_0000_0000,
+    0xf9ac_0000_0000_0000,
+    0xf86e_0000_0000_0000,
+    0xf330_0000_0000_0000,
+    0xf2f2_0000_0000_0000,
+    0xf0b4_0000_0000_0000,
+    0xf176_0000_0000_0000,
+    0xf438_0000_0000_0000,
+    0xf5fa_0000_0000_0000,
+    0xf7bc_0000_0000_0000,
+    0xf67e_0000_0000_0000,
     0xd940_0000_0000_0000,
+    0xd882_0000_0000_0000,
+    0xdac4_0000_0000_0000,
+    0xdb06_0000_0000_0000,
+    0xde48_0000_0000_0000,
+    0xdf8a_0000_0000_0000,
+    0xddcc_0000_0000_0000,
+    0xdc0e_0000_0000_0000,
+    0xd750_0000_0000_0000,
+    0xd692_0000_0000_0000,
+    0xd4d4_0000_0000_0000,
+    0xd516_0000_0000_0000,
+    0xd058_0000_0000_0000,
+    0xd19a_0000_0000_0000,
+    0xd3dc_0000_0000_0000,
+    0xd21e_0000_0000_0000,
     0xc560_0000_0000_0000,
+    0xc4a2_0000_0000_0000,
+    0xc6e4_0000_0000_0000,
+    0xc726_0000_0000_0000,
+    0xc268_0000_0000_0000,
+    0xc3aa_0000_0000_0000,
+    0xc1ec_0000_0000_0000,
+    0xc02e_0000_0000_0000,
+    0xcb70_0000_0000_0000,
+    0xcab2_0000_0000_0000,
+    0xc8f4_0000_0000_0000,
+    0xc936_0000_0000_0000,
+    0xcc78_0000_0000_0000,
+    0xcdba_0000_0000_0000,
+    0xcffc_0000_0000_0000,
+    0xce3e_0000_0000_0000,
     0x9180_0000_0000_0000,
+    0x9042_0000_0000_0000,
+    0x9204_0000_0000_0000,
+    0x93c6_0000_0000_0000,
+    0x9688_0000_0000_0000,
+    0x974a_0000_0000_0000,
+    0x950c_0000_0000_0000,
+    0x94ce_0000_0000_0000,
+    0x9f90_0000_0000_0000,
+    0x9e52_0000_0000_0000,
+    0x9c14_0000_0000_0000,
+    0x9dd6_0000_0000_0000,
+    0x9898_0000_0000_0000,
+    0x995a_0000_0000_0000,
+    0x9b1c_0000_0000_0000,
+    0x9ade_0000_0000_0000,
     0x8da0_0000_0000_0000,
+    0x8c62_0000_0000_0000,
+    0x8e24_0000_0000_0000,
+    0x8fe6_0000_0000_0000,
+    0x8aa8_0000_0000_0000,
+    0x8b6a_0000_0000_0000,
+    0x892c_0000_0000_0000,
+    0x88ee_0000_0000_0000,
+    0x83b0_0000_0000_0000,
+    0x8272_0000_0000_0000,
+    0x8034_0000_0000_0000,
+    0x81f6_0000_0000_0000,
+    0x84b8_0000_0000_0000,
+    0x857a_0000_0000_0000,
+    0x873c_0000_0000_0000,
+    0x86fe_0000_0000_0000,
     0xa9c0_0000_0000_0000,
+    0xa802_0000_0000_0000,
+    0xaa44_0000_0000_0000,
+    0xab86_0000_0000_0000,
+    0xaec8_0000_0000_0000,
+    0xaf0a_0000_0000_0000,
+    0xad4c_0000_0000_0000,
+    0xac8e_0000_0000_0000,
+    0xa7d0_0000_0000_0000,
+    0xa612_0000_0000_0000,
+    0xa454_0000_0000_0000,
+    0xa596_0000_0000_0000,
+    0xa0d8_0000_0000_0000,
+    0xa11a_0000_0000_0000,
+    0xa35c_0000_0000_0000,
+    0xa29e_0000_0000_0000,
     0xb5e0_0000_0000_0000,
+    0xb422_0000_0000_0000,
+    0xb664_0000_0000_0000,
+    0xb7a6_0000_0000_0000,
+    0xb2e8_0000_0000_0000,
+    0xb32a_0000_0000_0000,
+    0xb16c_0000_0000_0000,
+    0xb0ae_0000_0000_0000,
+    0xbbf0_0000_0000_0000,
+    0xba32_0000_0000_0000,
+    0xb874_0000_0000_0000,
+    0xb9b6_0000_0000_0000,
+    0xbcf8_0000_0000_0000,
+    0xbd3a_0000_0000_0000,
+    0xbf7c_0000_0000_0000,
+    0xbebe_0000_0000_0000,
 ];
 
-// The product of x^4 and a block.
-fn times_x4(block: u128) -> u128
-    ensures { bits 128 result ≡ shifted 4 (bits 128 block) }
+// The product of x^8 and a block.
+fn times_x8(block: u128) -> u128
+    ensures { bits 128 result ≡ shifted 8 (bits 128 block) }
 {
-    block >> 4 ^ (REDUCTIONS[(block & 15) as usize] as u128) << 64
+    block >> 8 ^ (REDUCTIONS[(block & 255) as usize] as u128) << 64
+}
+
+// The products of a block and the numbers of four bits, each as the lowest four of `count` bits.
+fn products(count: u32, block: u128) -> [u128; 16]
+    requires { count ≤ 128 }
+    ensures { result ≡ entries count 16 block }
+{
+    let mut products = [0; 16];
+    for n in 0..16usize {
+        products[n] = low_times(count, n as u128, block);
+    }
+    products
 }
 
 /// A hash key, which is what contracts see of it, with its products by each polynomial of four
-/// coefficients: 16 blocks, 256 bytes.
+/// coefficients, and by each of these times x^4: twice 16 blocks, 512 bytes.
 ///
-/// The products are computed once, by [`HashTable::new`]. Which of them [`HashTable::times`] reads
-/// depends on the block.
+/// The products are computed once, by [`HashTable::new`]. Which of them [`HashTable::times`] reads, and
+/// which entries of a table of 2 KiB that is the same for all keys, depends on the block.
 #[derive(Clone, Copy)]
 pub(crate) struct HashTable {
     key: u128,
-    products: [u128; 16],
+    first: [u128; 16],
+    behind: [u128; 16],
 }
 
 impl Model for HashTable {
@@ -54,9 +307,9 @@ impl Model for HashTable {
 
     ghost view = { λ t. t.key };
 
-    ghost invariant = { λ t. t.products ≡ entries 16 t.key };
+    ghost invariant = { λ t. (t.first ≡ entries 4 16 t.key) × (t.behind ≡ entries 8 16 t.key) };
 
-    ghost inverse = { λ v. record { key = v; products = entries 16 v } };
+    ghost inverse = { λ v. record { key = v; first = entries 4 16 v; behind = entries 8 16 v } };
 }
 
 impl HashTable {
@@ -64,24 +317,27 @@ impl HashTable {
     pub(crate) fn new(key: u128) -> HashTable
         ensures { result ≡ key }
     {
-        let mut products = [0; 16];
-        for n in 0..16usize {
-            products[n] = low_times(4, n as u128, key);
+        HashTable {
+            key,
+            first: products(4, key),
+            behind: products(8, key),
         }
-        HashTable { key, products }
     }
 
     /// The product of a block and the hash key.
     ///
-    /// From the last four coefficients of the block to the first ones: what there is so far is
-    /// multiplied by x^4, and the product of the four and the hash key is added.
+    /// From the last eight coefficients of the block to the first ones: what there is so far is
+    /// multiplied by x^8, and the product of the eight and the hash key is added.
     pub(crate) fn times(&self, block: u128) -> u128
         ensures { result ≡ times block self.now }
     {
         let mut product = 0;
-        for n in 0u32..32 {
-            let moved = times_x4(product);
-            product = moved ^ self.products[(block >> 4 * n & 15) as usize];
+        let mut left = block;
+        for n in 0u32..16 {
+            let byte = (left & 255) as usize;
+            let part = self.first[byte / 16] ^ self.behind[byte % 16];
+            product = times_x8(product) ^ part;
+            left >>= 8;
         }
         product
     }

@@ -1,6 +1,0 @@
-use Rattle.std.proofs.Common.{refl}
-use Rattle.gcm_mode.proofs.Tables.{moved_by_four}
-use Rattle.gcm_mode.proofs.table.times_x4.Goals as goal
-
-pub returns : goal.returns
-returns c = moved_by_four c.args.block _ _ c.ranges.block.fits refl refl
