@@ -130,9 +130,10 @@ pub add_created : (path : List ℕ) (a b c : List ℕ) → Adds a b multi_header
 unfolding SpellsResult
 add_created path a b c head p = add_as (pair multi_header ustring) _ a c (add_then multi_header ustring _ _ a b c head p)
 
-pub add_created2 : (path : List ℕ) (s : Stat) (a b c : List ℕ) → Adds a b multi_header (pos 15, (false, pos 0)) → Adds b c (pair ustring stat) (path, stat_fields s) → AddsBytes a c (SpellsResult (op_results.Created2 path s))
+pub add_created2 : (path : List ℕ) (s : Stat) (a b c d : List ℕ) → Adds a b multi_header (pos 15, (false, pos 0)) → Adds b c ustring path → Adds c d stat (stat_fields s) → AddsBytes a d (SpellsResult (op_results.Created2 path s))
 unfolding SpellsResult
-add_created2 path s a b c head p = add_as (pair multi_header (pair ustring stat)) _ a c (add_then multi_header (pair ustring stat) _ _ a b c head p)
+add_created2 path s a b c d head p q =
+    add_as (pair multi_header (pair ustring stat)) _ a d (add_then multi_header (pair ustring stat) _ _ a b d head (add_then ustring stat _ _ b c d p q))
 
 pub add_deleted : (a b : List ℕ) → Adds a b multi_header (pos 2, (false, pos 0)) → AddsBytes a b (SpellsResult op_results.Deleted)
 unfolding SpellsResult

@@ -40,6 +40,20 @@ const DONE_MULTI: &[u8] =
         \0\0\0\0\0\x03\xe8\0\0\0\0\0\0\0\0\0\0\0\0\0\0\0\0\0\0\0\0\0\0\0\x05\0\0\0\0\0\0\0\0\
         \0\0\0\x02\0\0\0\x0d\0\0\0\0\0\xff\xff\xff\xff\x01\xff\xff\xff\xff";
 
+// The reply to a create2 of "/app".
+const CREATED2: &[u8] = b"\0\0\0\x01\0\0\0\0\0\0\0\x02\0\0\0\0\0\0\0\x04/app\
+        \0\0\0\0\0\0\0\x02\0\0\0\0\0\0\0\x02\0\0\0\0\0\0\x03\xe8\0\0\0\0\0\0\x03\xe8\
+        \0\0\0\0\0\0\0\0\0\0\0\0\0\0\0\0\0\0\0\0\0\0\0\x05\0\0\0\0\0\0\0\0\0\0\0\x02";
+
+// A create2 and a check.
+const CREATED2_MULTI: &[u8] =
+    b"\0\0\0\x02\0\0\0\0\0\0\0\x02\0\0\0\0\0\0\0\x0f\0\0\0\0\0\0\0\0\x02/b\
+        \0\0\0\0\0\0\0\x02\0\0\0\0\0\0\0\x02\
+        \0\0\0\0\0\0\0\0\0\0\0\0\0\0\0\0\0\0\0\0\0\0\
+        \0\0\0\0\0\0\0\0\0\0\0\0\0\0\0\0\0\0\0\0\0\0\
+        \0\0\0\0\0\0\0\x02\
+        \0\0\0\x0d\0\0\0\0\0\xff\xff\xff\xff\x01\xff\xff\xff\xff";
+
 const NO_CHILDREN: &[u8] = b"\0\0\0\x02\0\0\0\0\0\0\0\x03\0\0\0\0\0\0\0\0";
 
 const NULL_CHILDREN: &[u8] = b"\0\0\0\x02\0\0\0\0\0\0\0\x03\0\0\0\0\xff\xff\xff\xff";
@@ -49,7 +63,7 @@ const NO_NODE: &[u8] = b"\0\0\0\x01\0\0\0\0\0\0\0\x02\xff\xff\xff\x9b";
 
 // What a store answers on a first run, to a create and a getData, and to multis; null lists and empty
 // ones; a ping; and errors.
-const REPLIES: [(Shape, i32, i64, &[u8]); 16] = [
+const REPLIES: [(Shape, i32, i64, &[u8]); 18] = [
     (
         Shape::Stat,
         1,
@@ -76,6 +90,8 @@ const REPLIES: [(Shape, i32, i64, &[u8]); 16] = [
     ),
     (Shape::Multi, 2, 2, FAILED_MULTI),
     (Shape::Multi, 2, 4, DONE_MULTI),
+    (Shape::Created2, 1, 2, CREATED2),
+    (Shape::Multi, 2, 2, CREATED2_MULTI),
     (
         Shape::Multi,
         1,
@@ -150,6 +166,16 @@ fn is_hello(outcome: &Outcome) -> bool {
 fn a_reply_tells_the_content_and_its_stat(rt: HostRuntime) -> Result<(), Fail> {
     let (reply, _) = reply_back(rt.alloc(), Shape::Content, CONTENT)?;
     assert!(rt; is_hello(&reply.outcome));
+    Ok(())
+}
+
+#[test]
+fn a_creation_tells_the_path_and_its_stat(rt: HostRuntime) -> Result<(), Fail> {
+    let (reply, _) = reply_back(rt.alloc(), Shape::Created2, CREATED2)?;
+    assert!(rt;
+        matches!(&reply.outcome,
+        Outcome::Created2 { path, stat } if path.as_str() == "/app" && *stat == STAT)
+    );
     Ok(())
 }
 

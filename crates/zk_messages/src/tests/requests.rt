@@ -21,11 +21,11 @@ fn requests_of_clients_are_read_and_written_back(rt: HostRuntime) -> Result<(), 
     Ok(())
 }
 
-// exists and closeSession of a first run; a create and a getData; a multi that fails; setACL, which
-// no client here sends.
+// exists and closeSession of a first run; a create and a getData; a multi that fails; setACL and
+// create2, alone and in a multi, which no client here sends.
 #[test]
 fn requests_by_hand_are_read_and_written_back(rt: HostRuntime) -> Result<(), Fail> {
-    let table: [(Kind, i32, &[u8]); 8] = [
+    let table: [(Kind, i32, &[u8]); 10] = [
         (Kind::Exists, 1, b"\0\0\0\x01\0\0\0\x03\0\0\0\x01/\0"),
         (Kind::Close, 2, b"\0\0\0\x02\xff\xff\xff\xf5"),
         (
@@ -60,6 +60,20 @@ fn requests_by_hand_are_read_and_written_back(rt: HostRuntime) -> Result<(), Fai
             3,
             b"\0\0\0\x03\0\0\0\x07\0\0\0\x02/a\
                 \0\0\0\x01\0\0\0\x1f\0\0\0\x05world\0\0\0\x06anyone\xff\xff\xff\xff",
+        ),
+        (
+            Kind::Create2,
+            1,
+            b"\0\0\0\x01\0\0\0\x0f\0\0\0\x04/app\0\0\0\x05hello\
+                \0\0\0\x01\0\0\0\x1f\0\0\0\x05world\0\0\0\x06anyone\0\0\0\0",
+        ),
+        (
+            Kind::Multi,
+            2,
+            b"\0\0\0\x02\0\0\0\x0e\0\0\0\x0f\0\xff\xff\xff\xff\0\0\0\x02/b\xff\xff\xff\xff\
+                \0\0\0\x01\0\0\0\x1f\0\0\0\x05world\0\0\0\x06anyone\0\0\0\0\
+                \0\0\0\x0d\0\xff\xff\xff\xff\0\0\0\x02/b\0\0\0\0\
+                \xff\xff\xff\xff\x01\xff\xff\xff\xff",
         ),
     ];
     for (kind, xid, body) in table {
