@@ -1,5 +1,6 @@
 pub mod Product
 pub mod Hashing
+pub mod Absorbing
 pub mod Counting
 pub mod RoundTrip
 pub mod Fits

@@ -1,3 +1,5 @@
 pub mod Ghash
+pub mod HashKey
 pub mod Gcm
+pub mod Absorbed
 pub mod Laws

@@ -14,14 +14,18 @@
 
 ghost use Rattle.gcm_mode.specs.Laws.{OpensExactlyWhatWasSealed, SealsToBytes, TagHas16Bytes, TextKeepsItsLength};
 
+mod absorbed;
 mod counter;
 mod fault;
 mod field;
 mod hash;
+mod key;
 mod sealing;
 
+pub use absorbed::Absorbed;
 pub use fault::GcmFault;
-pub use sealing::{seal, unseal};
+pub use key::GcmKey;
+pub use sealing::{seal, seal_absorbed, seal_pieces, unseal, unseal_absorbed};
 
 /// The law that a ciphertext and a tag open to a text exactly where they are what sealing that text
 /// gives, under the same key, IV and additional data.

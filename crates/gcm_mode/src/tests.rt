@@ -1,5 +1,4 @@
 use super::*;
-use aes_block::Key;
 use hex::FromHex;
 use sha2::{Digest, Sha256};
 use std::alloc::{AllocError, Global};
@@ -96,7 +95,7 @@ fn sealed_pattern(alloc: Global, text: usize, aad: usize) -> Result<Vec<u8>, Fai
     let data = pattern(alloc, aad, 2)?;
     let mut sealed = Vec::new(alloc);
     seal(
-        &Key::new(KEY),
+        &GcmKey::new(KEY),
         &IV,
         data.as_slice(),
         plain.as_slice(),
@@ -169,7 +168,7 @@ const WRITTEN_OUT: [(&str, &str, &str, &str, &str); 5] = [
 #[test]
 fn seals_the_papers_examples(rt: HostRuntime) -> Result<(), Fail> {
     for (key, iv, aad, plain, expected) in WRITTEN_OUT {
-        let key = Key::new(<[u8; 16] as FromHex>::from_hex(key)?);
+        let key = GcmKey::new(<[u8; 16] as FromHex>::from_hex(key)?);
         let iv = <[u8; 12] as FromHex>::from_hex(iv)?;
         let aad = hex::decode(rt.alloc(), aad)?;
         let plain = hex::decode(rt.alloc(), plain)?;
@@ -183,7 +182,7 @@ fn seals_the_papers_examples(rt: HostRuntime) -> Result<(), Fail> {
 
 #[test]
 fn opens_what_was_sealed_and_no_other_tag(rt: HostRuntime) -> Result<(), Fail> {
-    let key = Key::new(KEY);
+    let key = GcmKey::new(KEY);
     let data = pattern(rt.alloc(), 17, 2)?;
     let plain = pattern(rt.alloc(), 33, 1)?;
     let sealed = sealed_pattern(rt.alloc(), 33, 17)?;

@@ -11,8 +11,7 @@ ghost use Rattle.path_seal.specs.Names.{IsCut, IsName, AppendsName, IsPlainOf, I
 
 use crate::keys::NameKeys;
 use crate::sealing::{above_of, iv_of, parent_text};
-use aes_block::Key;
-use gcm_mode::unseal;
+use gcm_mode::{GcmKey, unseal};
 use hex::FromHexError;
 use jute_core::{Memory, Text};
 use std::alloc::Global;
@@ -52,7 +51,7 @@ fn parts_of(bytes: &[u8]) -> Option<(&[u8; 12], &[u8], &[u8; 16])>
 // The name that a ciphertext and a tag open to.
 fn unsealed(
     alloc: Global,
-    key: &Key,
+    key: &GcmKey,
     iv: &[u8; 12],
     aad: &[u8],
     text: &[u8],

@@ -1,8 +1,7 @@
-use Rattle.std.proofs.Common.{◌≡◌, ap, ◌∙◌, arith}
+use Rattle.std.proofs.Common.{◌≡◌, ◌/◌, length, ap, ◌∙◌, arith}
 use Rattle.std.specs.Int.{w128, from_be_bytes}
-use Rattle.gcm_mode.specs.Ghash.{block_count}
 use Rattle.gcm_mode.proofs.Hashing.{none_absorbed, one_absorbed}
-use Rattle.gcm_mode.proofs.hash.absorb.Goals as goal
+use Rattle.gcm_mode.proofs.hash.absorb_blocks.Goals as goal
 
 pub loop-n-init : goal.loop-n-init
 loop-n-init c = none_absorbed c.args.hash_key c.args.start c.args.text.now
@@ -14,5 +13,5 @@ loop-n-preserved c =
 
 pub returns : goal.returns
 returns c =
-    let done : c.loop-n.n ≡ block_count c.args.text.now = omega arith in
+    let done : c.loop-n.n ≡ length c.args.text.now / 16 = omega arith in
     rw done at c.loop-n.invariant
