@@ -1,5 +1,5 @@
 -- A refused request is answered with its code, and each other one by its row.
-use Rattle.std.proofs.Common.{◌≡◌, ℕ, ℤ, Bool, List, [], All, Option, Some, None, Result, Ok, refl, sym, ap, subst, inl, inr}
+use Rattle.std.proofs.Common.{◌≡◌, ℕ, ℤ, Bool, true, false, List, [], All, Option, Some, None, Result, Ok, refl, sym, ap, subst, inl, inr}
 use Rattle.std.specs.List.{AllZip}
 use Rattle.jute_core.specs.declared.held.Memory.{Memory}
 use Rattle.zk_records.specs.declared.create.CreateRequest.{CreateRequest}
@@ -40,26 +40,33 @@ unfolding IsCommand
 asked_plain r command f (inl k) = absurd (some_none k.0 (one_outcome r _ _ k.1 f))
 asked_plain r command f (inr k) = k.1
 
-pub record IsCreating (r : CreateRequest) (command : Command) : Type 0 where
+-- the request that makes a node, which is answered with or without a Stat
+abbrev pub creation : Bool → CreateRequest → Request
+creation false r = requests.Create r
+creation true r = requests.Create2 r
+
+pub record IsCreating (stat : Bool) (r : CreateRequest) (command : Command) : Type 0 where
   pub path : Path
   pub name : List ℕ
   pub content : Option (List ℕ)
   pub sequential : Bool
   pub ephemeral : Bool
   pub asked : IsCreate r path name content sequential ephemeral
-  pub is : command ≡ single (create path name content sequential ephemeral)
+  pub is : command ≡ single (create path name content sequential ephemeral stat)
 
-asks_create : (r : CreateRequest) (command : Command) → Asks (requests.Create r) command → IsCreating r command
+pub asks_create : (w : Bool) (r : CreateRequest) (command : Command) → Asks (creation w r) command → IsCreating w r command
 unfolding Asks
-asks_create r (single (create p n d q e)) h = record { path = p; name = n; content = d; sequential = q; ephemeral = e; asked = h; is = refl }
-asks_create r command h = absurd h
+asks_create false r (single (create p n d q e v)) h = record { path = p; name = n; content = d; sequential = q; ephemeral = e; asked = h.0; is = ap (λ (x : Bool). single (create p n d q e x)) h.1 }
+asks_create true r (single (create p n d q e v)) h = record { path = p; name = n; content = d; sequential = q; ephemeral = e; asked = h.0; is = ap (λ (x : Bool). single (create p n d q e x)) h.1 }
+asks_create false r command h = absurd h
+asks_create true r command h = absurd h
 
-pub create_answers : (naming : Naming) (at : Moment) (c : ℕ) (s : State) (h : Held) (before sent : Sent) (r : Request) (x : CreateRequest) (command : Command) (result : Result Outcome Memory) → r ≡ requests.Create x → Refuses r None → IsCommand r command
-    → ((p : Path) (n : List ℕ) (d : Option (List ℕ)) (q e : Bool) → IsCreate x p n d q e → Answers s (answer_single s (perform naming at s (create p n d q e))) h before sent result)
+pub create_answers : (naming : Naming) (at : Moment) (c : ℕ) (s : State) (h : Held) (before sent : Sent) (r : Request) (w : Bool) (x : CreateRequest) (command : Command) (result : Result Outcome Memory) → r ≡ creation w x → Refuses r None → IsCommand r command
+    → ((p : Path) (n : List ℕ) (d : Option (List ℕ)) (q e : Bool) → IsCreate x p n d q e → Answers s (answer_single s (perform naming at s (create p n d q e w))) h before sent result)
     → Answers s (answer naming at c s command) h before sent result
 unfolding answer
-create_answers naming at c s h before sent r x command result e f k done =
-    let a = asks_create x command (subst (λ (q : Request). Asks q command) e (asked_plain r command f k)) in
+create_answers naming at c s h before sent r w x command result e f k done =
+    let a = asks_create w x command (subst (λ (q : Request). Asks q command) e (asked_plain r command f k)) in
     subst (λ (y : Command). Answers s (answer naming at c s y) h before sent result) (sym a.is) (done a.path a.name a.content a.sequential a.ephemeral a.asked)
 
 -- ---- multi
@@ -87,8 +94,9 @@ multi_answers naming at c s h before sent r list command result e f k done =
     subst (λ (y : Command). Answers s (answer naming at c s y) h before sent result) (sym a.is)
     (done a.changes (each_allowed list (subst (λ (q : Request). Refuses q None) e f)) a.asked)
 
-pub other : (r : Request) → ((x : CreateRequest) → r ≡ requests.Create x → ⊥) → ((x : List Op) → r ≡ requests.Multi x → ⊥) → IsOther r
+pub other : (r : Request) → ((x : CreateRequest) → r ≡ requests.Create x → ⊥) → ((x : CreateRequest) → r ≡ requests.Create2 x → ⊥) → ((x : List Op) → r ≡ requests.Multi x → ⊥) → IsOther r
 unfolding IsOther
-other (requests.Create x) h k = h x refl
-other (requests.Multi x) h k = k x refl
-other r h k = tt
+other (requests.Create x) h i k = h x refl
+other (requests.Create2 x) h i k = i x refl
+other (requests.Multi x) h i k = k x refl
+other r h i k = tt

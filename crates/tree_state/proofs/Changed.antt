@@ -31,14 +31,14 @@ use Rattle.tree_state.specs.declared.watches.Watches.{Watches}
 use Rattle.tree_state.specs.Commands.{create, delete, set_content, check, set_acl}
 use Rattle.tree_state.specs.Nodes.{Path, Node, Place, above, find, is_there, change, add, remove, children, has_children, ephemerals, stat_of, size_of, greatest_int}
 use Rattle.tree_state.specs.State.{State, Session, Watch, left, on_data}
-use Rattle.tree_state.specs.Changes.{Trial, failed, done, Naming, Effect, perform, has_owner, is_at_last, is_other_version, name_for, fresh_numbers, with_creation, with_deletion, with_content, with_acl, creation_events, left_by_creation, deletion_events, left_by_deletion, content_events, created, deleted, updated, no_node, bad_version, not_empty, node_exists, no_children_for_ephemerals, system_error}
+use Rattle.tree_state.specs.Changes.{Trial, failed, done, Naming, Effect, perform, has_owner, is_at_last, is_other_version, name_for, fresh_numbers, with_creation, with_deletion, with_content, with_acl, creation_events, left_by_creation, deletion_events, left_by_deletion, content_events, creation_result, created, deleted, updated, no_node, bad_version, not_empty, node_exists, no_children_for_ephemerals, system_error}
 use Rattle.tree_state.specs.Step.{Answer, answer, with_error, told_only}
 use Rattle.tree_state.specs.Sessions.{Keeps, Owning, with_owned, without_owned}
 use Rattle.tree_state.specs.Places.{node_of, kept_stat, IsSmall, IsFound, IsApart, Holds, content_limit, text_limit}
 use Rattle.tree_state.specs.Trees.{Means, Stays, Quietly, IsParent, MayCreate, IsMoment, Performs}
 use Rattle.zk_messages.specs.Short.{IsShortContent}
 use Rattle.tree_state.specs.Watches.{Watching}
-use Rattle.tree_state.proofs.Found.{there_found, there_changed, find_changed-same, children_changed}
+use Rattle.tree_state.proofs.Found.{there_found, there_changed, find_added-same, find_changed-same, children_changed}
 use Rattle.tree_state.proofs.ChildNames.{no_children}
 use Rattle.tree_state.proofs.Readings.{absent, present, count_names, stat_is}
 use Rattle.tree_state.proofs.Rows.{create_missing, create_owned, create_full, create_there, create_done, delete_missing, delete_other, delete_filled, delete_done, set_content_missing, set_content_other, set_content_last, set_content_done, check_missing, check_other, check_done, set_acl_missing, set_acl_other, set_acl_last, set_acl_done}
@@ -94,16 +94,16 @@ low_so k h = elim (leb_tells greatest_int k) [ inl t ↦ let l = full_so k t.1 i
 
 pub may_not_missing : (s : State) (p : Path) → IsFound s.nodes p None → MayCreate s p (Err no_node)
 unfolding MayCreate
-may_not_missing s p f = λ naming at n content q e. create_missing naming at s p n content q e (absent s.nodes p f)
+may_not_missing s p f = λ naming at n content q e w. create_missing naming at s p n content q e w (absent s.nodes p f)
 
 pub may_not_owned : (s : State) (p : Path) (n : code.Node) → IsFound s.nodes p (Some n) → (n.numbers.owner ≡ pos 0 → ⊥) → MayCreate s p (Err no_children_for_ephemerals)
 unfolding MayCreate node_of
-may_not_owned s p n f o = λ naming at m content q e. create_owned naming at s p m content q e (node_of n) (present s.nodes p n f).plain (owned_so (node_of n) o)
+may_not_owned s p n f o = λ naming at m content q e w. create_owned naming at s p m content q e w (node_of n) (present s.nodes p n f).plain (owned_so (node_of n) o)
 
 pub may_not_full : (s : State) (p : Path) (n : code.Node) → IsFound s.nodes p (Some n) → n.numbers.owner ≡ pos 0 → greatest_int ≤ n.numbers.creations → MayCreate s p (Err system_error)
 unfolding MayCreate node_of
-may_not_full s p n f o l = λ naming at m content q e.
-    create_full naming at s p m content q e (node_of n) (present s.nodes p n f).plain (free_so (node_of n) o) (full_so n.numbers.creations l)
+may_not_full s p n f o l = λ naming at m content q e w.
+    create_full naming at s p m content q e w (node_of n) (present s.nodes p n f).plain (free_so (node_of n) o) (full_so n.numbers.creations l)
 
 pub may_create : (s : State) (p : Path) (n : code.Node) → IsFound s.nodes p (Some n) → n.numbers.owner ≡ pos 0 → n.numbers.creations < greatest_int → MayCreate s p (Ok n.numbers.creations)
 unfolding MayCreate node_of
@@ -397,10 +397,10 @@ unfolding IsFound
 found_so es p None b f e = there_found p es ∙ ap is_some f ∙ e
 found_so es p (Some n) b f e = there_found p es ∙ ap is_some f.plain ∙ e
 
-pub create_exists : (naming : Naming) (at : Moment) (s : State) (p : Path) (n m : List ℕ) (d : Option (List ℕ)) (q e : Bool) (up : Node) (h : Held) (outputs : Vec Output Global) (o : Option (Bor code.Node)) → Means h s → IsParent s p up
-    → name_for naming p n q up ≡ Some m → IsFound s.nodes (m ∷ p) (option_copied o) → true ≡ is_some o → Performs s (perform naming at s (create p n d q e)) h outputs outputs (Err (stops.Refused node_exists))
-create_exists naming at s p n m d q e up h outputs o means parent named f there =
-    refused_by s _ h outputs node_exists means (create_there naming at s p n m d q e up parent named (found_so s.nodes (m ∷ p) o true f (sym there)))
+pub create_exists : (naming : Naming) (at : Moment) (s : State) (p : Path) (n m : List ℕ) (d : Option (List ℕ)) (q e w : Bool) (up : Node) (h : Held) (outputs : Vec Output Global) (o : Option (Bor code.Node)) → Means h s → IsParent s p up
+    → name_for naming p n q up ≡ Some m → IsFound s.nodes (m ∷ p) (option_copied o) → true ≡ is_some o → Performs s (perform naming at s (create p n d q e w)) h outputs outputs (Err (stops.Refused node_exists))
+create_exists naming at s p n m d q e w up h outputs o means parent named f there =
+    refused_by s _ h outputs node_exists means (create_there naming at s p n m d q e w up parent named (found_so s.nodes (m ∷ p) o true f (sym there)))
 
 -- the session of a new ephemeral comes to own it, and the places are these
 pub record Joins (h mid : Held) (made : Places) (session : ℤ) (text : List ℕ) (ephemeral : Bool) : Type 0 where
@@ -461,15 +461,15 @@ unfolding fresh_numbers
 fresh_given s at true mo = mo.given
 fresh_given s at false mo = not_below at.session s.greatest mo.positive mo.given
 
-made_means : (h mid after : Held) (made : Places) (at : Moment) (s : State) (text : List ℕ) (p : Path) (m : List ℕ) (up : Node) (d : Option (List ℕ)) (e : Bool) → Means h s → IsMoment s at → IsTextOf text (m ∷ p) → IsParent s p up → is_there s.nodes (m ∷ p) ≡ false
+made_means : (h mid after : Held) (made : Places) (at : Moment) (s : State) (text : List ℕ) (p : Path) (m : List ℕ) (up : Node) (d : Option (List ℕ)) (e w : Bool) → Means h s → IsMoment s at → IsTextOf text (m ∷ p) → IsParent s p up → is_there s.nodes (m ∷ p) ≡ false
     → Joins h mid made at.session text e → after.sessions ≡ mid.sessions → Holds after.places (add (m ∷ p) (record { content = d; numbers = fresh_numbers at e }) (change p (with_creation at.zxid) s.nodes))
-    → Watching after.watches (left_by_creation p m s.watches) → after.last ≡ at.zxid → Means after (created at p m (record { content = d; numbers = fresh_numbers at e }) s).state
+    → Watching after.watches (left_by_creation p m s.watches) → after.last ≡ at.zxid → Means after (created at p m (record { content = d; numbers = fresh_numbers at e }) w s).state
 unfolding created with_creation
-made_means h mid after made at s text p m up d e means mo t parent vacant joins same holds watched last =
+made_means h mid after made at s text p m up d e w means mo t parent vacant joins same holds watched last =
     let own : Owning = λ k. ephemerals k s.nodes in
     let f = with_creation at.zxid in
     let node : Node = record { content = d; numbers = fresh_numbers at e } in
-    let u : State = (created at p m node s).state in
+    let u : State = (created at p m node w s).state in
     let then : Owning = λ k. ephemerals k u.nodes in
     let ours : Owning = cond e (with_owned at.session (m ∷ p) own) own in
     let v : State = record s { nodes = change p f s.nodes } in
@@ -484,22 +484,38 @@ made_means h mid after made at s text p m up d e means mo t parent vacant joins 
       last = last;
     }
 
-created_so : (naming : Naming) (at : Moment) (s : State) (p : Path) (n m : List ℕ) (d : Option (List ℕ)) (q e : Bool) (up : Node) (after : Held) (before sent : Vec Output Global) (made : List ℕ) → IsParent s p up
-    → name_for naming p n q up ≡ Some m → is_there s.nodes (m ∷ p) ≡ false → made ≡ text_of (m ∷ p) → sent.items ≡ before.items ++ creation_events p m s.watches
-    → Means after (created at p m (record { content = d; numbers = fresh_numbers at e }) s).state → Performs s (perform naming at s (create p n d q e)) after before sent (Ok (results.Created made))
-unfolding created
-created_so naming at s p n m d q e up after before sent made parent named vacant spelled told means =
-    let node : Node = record { content = d; numbers = fresh_numbers at e } in
-    performed s _ (created at p m node s) after before sent (results.Created made) (create_done naming at s p n m d q e up parent named vacant) (ap results.Created spelled) told means
+-- what is answered to a creation, of which what is held tells
+abbrev pub TellsCreation : Held → Bool → List ℕ → OpResult → Type 0
+TellsCreation h w made result = (s : State) (p : Path) (node : Node) → Means h s → IsTextOf made p → find s.nodes p ≡ Some node → result ≡ creation_result w s.nodes p node
 
-pub create_makes : (naming : Naming) (at : Moment) (s : State) (p : Path) (n m : List ℕ) (d c : Option (List ℕ)) (q e : Bool) (up : Node) (h mid after : Held) (put : Places) (before sent : Vec Output Global) (text made : List ℕ) (o : Option (Bor code.Node))
+pub tells_path : (w : Bool) (made : List ℕ) (es : List Place) (p : Path) (node : Node) → w ≡ false → made ≡ text_of p → results.Created made ≡ creation_result w es p node
+unfolding creation_result
+tells_path false made es p node e t = ap results.Created t
+tells_path true made es p node e t = absurd cc
+
+pub tells_stat : (w : Bool) (made : List ℕ) (stat : Stat) (es : List Place) (p : Path) (node : Node) → w ≡ true → made ≡ text_of p → stat ≡ stat_of es p node → results.Created2 made stat ≡ creation_result w es p node
+unfolding creation_result
+tells_stat true made stat es p node e t s = cc
+tells_stat false made stat es p node e t s = absurd cc
+
+created_so : (naming : Naming) (at : Moment) (s : State) (p : Path) (n m : List ℕ) (d : Option (List ℕ)) (q e w : Bool) (up : Node) (after : Held) (before sent : Vec Output Global) (made : List ℕ) (result : OpResult) → IsParent s p up
+    → name_for naming p n q up ≡ Some m → is_there s.nodes (m ∷ p) ≡ false → IsTextOf made (m ∷ p) → sent.items ≡ before.items ++ creation_events p m s.watches
+    → Means after (created at p m (record { content = d; numbers = fresh_numbers at e }) w s).state → TellsCreation after w made result → Performs s (perform naming at s (create p n d q e w)) after before sent (Ok result)
+unfolding created
+created_so naming at s p n m d q e w up after before sent made result parent named vacant spelled told means tells =
+    let node : Node = record { content = d; numbers = fresh_numbers at e } in
+    let u : State = (created at p m node w s).state in
+    let there : find u.nodes (m ∷ p) ≡ Some node = find_added-same (m ∷ p) node (change p (with_creation at.zxid) s.nodes) (there_changed p (m ∷ p) (with_creation at.zxid) s.nodes ∙ vacant) in
+    performed s _ (created at p m node w s) after before sent result (create_done naming at s p n m d q e w up parent named vacant) (tells u (m ∷ p) node means spelled there) told means
+
+pub create_makes : (naming : Naming) (at : Moment) (s : State) (p : Path) (n m : List ℕ) (d c : Option (List ℕ)) (q e w : Bool) (up : Node) (h mid after : Held) (put : Places) (before sent : Vec Output Global) (text made : List ℕ) (result : OpResult) (o : Option (Bor code.Node))
     → Means h s → IsTextOf text (m ∷ p) → IsMoment s at → IsParent s p up → name_for naming p n q up ≡ Some m → IsFound s.nodes (m ∷ p) (option_copied o) → false ≡ is_some o → IsShortContent d → length text ≤ text_limit → c ≡ d → made ≡ text
     → sent.items ≡ before.items ++ creation_events p m s.watches → Joins h mid put at.session text e → after.places ≡ mid.places → after.sessions ≡ mid.sessions
     → ((ws : List Watch) (r : Path) (k : List ℕ) → Watching mid.watches ws → IsTextOf text (k ∷ r) → Watching after.watches (left_by_creation r k ws)) → after.last ≡ at.zxid
     → ((es : List Place) (k : List ℕ) (r : Path) (x : Node) → Holds h.places es → IsTextOf text (k ∷ r) → is_there es (k ∷ r) ≡ false → find es r ≡ Some x → x.numbers.creations < greatest_int → size_of c ≤ content_limit → length text ≤ text_limit
     → Holds put (add (k ∷ r) (record { content = c; numbers = fresh_numbers at e }) (change r (with_creation at.zxid) es)))
-    → Performs s (perform naming at s (create p n d q e)) after before sent (Ok (results.Created made))
-create_makes naming at s p n m d c q e up h mid after put before sent text made o means t mo parent named f there short room copy spelled told joins placed same fired last holds =
+    → TellsCreation after w made result → Performs s (perform naming at s (create p n d q e w)) after before sent (Ok result)
+create_makes naming at s p n m d c q e w up h mid after put before sent text made result o means t mo parent named f there short room copy spelled told joins placed same fired last holds tells =
     let watched = fired s.watches p m (subst (λ (u : Watches). Watching u s.watches) (sym joins.watches) means.watches) t in
     let vacant = found_so s.nodes (m ∷ p) o false f (sym there) in
     let node : Node = record { content = d; numbers = fresh_numbers at e } in
@@ -508,5 +524,5 @@ create_makes naming at s p n m d c q e up h mid after put before sent text made 
     (holds s.nodes m p up means.places t vacant parent.there (low_so up.numbers.creations parent.room)
     (subst (λ (x : Option (List ℕ)). size_of x ≤ content_limit) (sym copy) (short_content d short)) room) in
     let moved = subst (λ (u : Places). Holds u (add (m ∷ p) node (change p (with_creation at.zxid) s.nodes))) (sym (placed ∙ joins.places)) held in
-    created_so naming at s p n m d q e up after before sent made parent named vacant (spelled ∙ t.spelled) told
-    (made_means h mid after put at s text p m up d e means mo t parent vacant joins same moved watched last)
+    created_so naming at s p n m d q e w up after before sent made result parent named vacant (subst (λ (x : List ℕ). IsTextOf x (m ∷ p)) (sym spelled) t) told
+    (made_means h mid after put at s text p m up d e w means mo t parent vacant joins same moved watched last) tells

@@ -28,16 +28,16 @@ failed_performs : (s : State) (t : Trial ℤ Effect) (h : Held) (o : Outs) (code
 unfolding Performs
 failed_performs s t h o code e m = subst (λ (x : Trial ℤ Effect). Performs s x h o o (Err (stops.Refused code))) (sym e) (refl, refl, m)
 
-pub create_refused : (naming : Naming) (at : Moment) (s : State) (h : Held) (o : Outs) (p : Path) (n : List ℕ) (d : Option (List ℕ)) (q e : Bool) (code : ℤ) → MayCreate s p (Err code) → Means h s
-    → Performs s (perform naming at s (create p n d q e)) h o o (Err (stops.Refused code))
+pub create_refused : (naming : Naming) (at : Moment) (s : State) (h : Held) (o : Outs) (p : Path) (n : List ℕ) (d : Option (List ℕ)) (q e w : Bool) (code : ℤ) → MayCreate s p (Err code) → Means h s
+    → Performs s (perform naming at s (create p n d q e w)) h o o (Err (stops.Refused code))
 unfolding MayCreate
-create_refused naming at s h o p n d q e code r m = failed_performs s _ h o code (r naming at n d q e) m
+create_refused naming at s h o p n d q e w code r m = failed_performs s _ h o code (r naming at n d q e w) m
 
-pub create_no_name : (naming : Naming) (at : Moment) (s : State) (h : Held) (o : Outs) (p : Path) (n : List ℕ) (d : Option (List ℕ)) (q e : Bool) (creations : ℕ) → MayCreate s p (Ok creations)
-    → IsNamedTo p None (name_at naming p n q creations) → Means h s → Performs s (perform naming at s (create p n d q e)) h o o (Err (stops.Refused bad_arguments))
+pub create_no_name : (naming : Naming) (at : Moment) (s : State) (h : Held) (o : Outs) (p : Path) (n : List ℕ) (d : Option (List ℕ)) (q e w : Bool) (creations : ℕ) → MayCreate s p (Ok creations)
+    → IsNamedTo p None (name_at naming p n q creations) → Means h s → Performs s (perform naming at s (create p n d q e w)) h o o (Err (stops.Refused bad_arguments))
 unfolding MayCreate IsNamedTo
-create_no_name naming at s h o p n d q e creations r k m =
-    failed_performs s _ h o bad_arguments (create_unnamed naming at s p n d q e r.0 r.1 (name_of_parent naming p n q r.0 creations r.2 ∙ k)) m
+create_no_name naming at s h o p n d q e w creations r k m =
+    failed_performs s _ h o bad_arguments (create_unnamed naming at s p n d q e w r.0 r.1 (name_of_parent naming p n q r.0 creations r.2 ∙ k)) m
 
 without_memory : (s : State) (t : Trial ℤ Effect) (h : Held) (o sent : Outs) (e : NotDone) → e ≡ stops.Memory → Means h s → Performs s t h o sent (Err e)
 unfolding Performs
@@ -62,12 +62,12 @@ same_truth false true f g = absurd (off (f.1 (g.0 refl)))
     off h = cc
 same_truth false false f g = refl
 
-pub creates : (naming : Naming) (at : Moment) (s : State) (after : Held) (o sent : Outs) (r : CreateRequest) (p : Path) (n : List ℕ) (d : Option (List ℕ)) (q e : Bool) (creations : ℕ) (text : List ℕ) (f : Bool) (result : Result OpResult NotDone)
+pub creates : (naming : Naming) (at : Moment) (s : State) (after : Held) (o sent : Outs) (r : CreateRequest) (p : Path) (n : List ℕ) (d : Option (List ℕ)) (q e w : Bool) (creations : ℕ) (text : List ℕ) (f : Bool) (result : Result OpResult NotDone)
     → IsCreate r p n d q e → MayCreate s p (Ok creations) → IsNamedTo p (Some text) (name_at naming p n q creations) → (IsTrue f ↔ IsEphemeral r.flags)
-    → ((m : List ℕ) (up : Node) → IsTextOf text (m ∷ p) → IsParent s p up → name_for naming p n q up ≡ Some m → Performs s (perform naming at s (create p n r.content q f)) after o sent result)
-    → Performs s (perform naming at s (create p n d q e)) after o sent result
+    → ((m : List ℕ) (up : Node) → IsTextOf text (m ∷ p) → IsParent s p up → name_for naming p n q up ≡ Some m → Performs s (perform naming at s (create p n r.content q f w)) after o sent result)
+    → Performs s (perform naming at s (create p n d q e w)) after o sent result
 unfolding MayCreate IsNamedTo
-creates naming at s after o sent r p n d q e creations text f result k may name kept does =
+creates naming at s after o sent r p n d q e w creations text f result k may name kept does =
     let given = does name.0 may.0 name.2 may.1 (name_of_parent naming p n q may.0 creations may.2 ∙ name.1) in
-    subst (λ (x : Option (List ℕ)). Performs s (perform naming at s (create p n x q e)) after o sent result) k.same_content
-    (subst (λ (b : Bool). Performs s (perform naming at s (create p n r.content q b)) after o sent result) (same_truth f e kept k.kept) given)
+    subst (λ (x : Option (List ℕ)). Performs s (perform naming at s (create p n x q e w)) after o sent result) k.same_content
+    (subst (λ (b : Bool). Performs s (perform naming at s (create p n r.content q b w)) after o sent result) (same_truth f e kept k.kept) given)

@@ -102,7 +102,8 @@ created r h =
 
 a_change : (op : Op) → RefusesOp op None → (change : Change) × IsChange op change
 unfolding IsChange
-a_change (ops.Create r) h = let k = created r h in (create k.path k.name r.content k.sequential k.ephemeral, k.asked)
+a_change (ops.Create r) h = let k = created r h in (create k.path k.name r.content k.sequential k.ephemeral false, (k.asked, refl))
+a_change (ops.Create2 r) h = let k = created r h in (create k.path k.name r.content k.sequential k.ephemeral true, (k.asked, refl))
 a_change (ops.Delete r) h = let k = a_path r.path (node_allowed r.path h) in (delete k.0 r.version, (k.1, refl))
 a_change (ops.SetContent r) h = let k = a_path r.path (node_allowed r.path h) in (set_content k.0 r.content r.version, (k.1, refl, refl))
 a_change (ops.Check r) h = let k = a_path r.path (path_allowed r.path h) in (check k.0 r.version, (k.1, refl))
@@ -120,7 +121,8 @@ pub some_asked : (r : Request) → Refuses r None → (command : Command) × Ask
 unfolding Refuses Asks
 some_asked (requests.Unknown kind body) h = absurd (none-some _ h)
 some_asked (requests.Auth body) h = absurd (none-some _ h)
-some_asked (requests.Create r) h = let k = created r h in (single (create k.path k.name r.content k.sequential k.ephemeral), k.asked)
+some_asked (requests.Create r) h = let k = created r h in (single (create k.path k.name r.content k.sequential k.ephemeral false), (k.asked, refl))
+some_asked (requests.Create2 r) h = let k = created r h in (single (create k.path k.name r.content k.sequential k.ephemeral true), (k.asked, refl))
 some_asked (requests.Delete r) h = let k = a_path r.path (node_allowed r.path h) in (single (delete k.0 r.version), (k.1, refl))
 some_asked (requests.Exists r) h = let k = a_path r.path (path_allowed r.path h) in (stat_at k.0 r.watch, (k.1, refl))
 some_asked (requests.GetContent r) h = let k = a_path r.path (node_allowed r.path h) in (get_content k.0 r.watch, (k.1, refl))

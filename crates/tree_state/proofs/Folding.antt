@@ -93,7 +93,7 @@ kept_refuse g false code next k = k
 
 perform_kept : (naming : Naming) (at : Moment) (s : State) (c : Change) → Kept s.greatest (perform naming at s c)
 unfolding perform created deleted updated
-perform_kept naming at s (create p n d q e) = kept_need _ _ _ _ (λ up. kept_refuse _ _ _ _ (kept_refuse _ _ _ _ (kept_need _ _ _ _ (λ name. kept_refuse _ _ _ _ refl))))
+perform_kept naming at s (create p n d q e w) = kept_need _ _ _ _ (λ up. kept_refuse _ _ _ _ (kept_refuse _ _ _ _ (kept_need _ _ _ _ (λ name. kept_refuse _ _ _ _ refl))))
 perform_kept naming at s (delete p v) = kept_need _ _ _ _ (λ n. kept_refuse _ _ _ _ (kept_refuse _ _ _ _ refl))
 perform_kept naming at s (set_content p d v) = kept_need _ _ _ _ (λ n. kept_refuse _ _ _ _ (kept_refuse _ _ _ _ refl))
 perform_kept naming at s (check p v) = kept_need _ _ _ _ (λ n. kept_refuse _ _ _ _ refl)

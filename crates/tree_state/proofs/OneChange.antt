@@ -1,5 +1,5 @@
 -- One operation of a multi is the change that it asks for.
-use Rattle.std.proofs.Common.{◌≡◌, ℕ, ℤ, Bool, List, ◌∷◌, Option, None, Result, Vec, refl, sym, ap, subst, ◌∙◌}
+use Rattle.std.proofs.Common.{◌≡◌, ℕ, ℤ, Bool, true, false, List, ◌∷◌, Option, None, Result, Vec, refl, sym, ap, subst, ◌∙◌}
 use Rattle.std.specs.Global.{Global}
 use Rattle.zk_path.specs.Paths.{IsTextOf}
 use Rattle.zk_records.specs.declared.create.CreateRequest.{CreateRequest}
@@ -25,11 +25,17 @@ use Rattle.tree_state.proofs.BelowRoot.{below_root}
 abbrev Outs : Type 0
 Outs = Vec Output Global
 
+-- the operation that makes a node, which is answered with or without a Stat
+abbrev pub creation : Bool → CreateRequest → Op
+creation false r = ops.Create r
+creation true r = ops.Create2 r
+
 -- ---- what is short of each operation
 
-pub short_creation : (op : Op) (r : CreateRequest) → op ≡ ops.Create r → HasShortOpParts op → IsShort r.path × IsShortContent r.content
+pub short_creation : (op : Op) (w : Bool) (r : CreateRequest) → op ≡ creation w r → HasShortOpParts op → IsShort r.path × IsShortContent r.content
 unfolding HasShortOpParts
-short_creation op r e h = subst HasShortOpParts e h
+short_creation op false r e h = subst HasShortOpParts e h
+short_creation op true r e h = subst HasShortOpParts e h
 
 pub short_content : (op : Op) (r : SetContentRequest) → op ≡ ops.SetContent r → HasShortOpParts op → IsShortContent r.content
 unfolding HasShortOpParts
@@ -37,11 +43,13 @@ short_content op r e h = (subst HasShortOpParts e h).1
 
 -- ---- the change of each operation
 
-pub asks_create : (r : CreateRequest) (c : Change) → IsChange (ops.Create r) c
-    → (p : Path) × (n : List ℕ) × (d : Option (List ℕ)) × (q : Bool) × (e : Bool) × IsCreate r p n d q e × (c ≡ create p n d q e)
+pub asks_create : (w : Bool) (r : CreateRequest) (c : Change) → IsChange (creation w r) c
+    → (p : Path) × (n : List ℕ) × (d : Option (List ℕ)) × (q : Bool) × (e : Bool) × IsCreate r p n d q e × (c ≡ create p n d q e w)
 unfolding IsChange
-asks_create r (create p n d q e) h = (p, n, d, q, e, h, refl)
-asks_create r c h = absurd h
+asks_create false r (create p n d q e v) h = (p, n, d, q, e, h.0, ap (create p n d q e) h.1)
+asks_create true r (create p n d q e v) h = (p, n, d, q, e, h.0, ap (create p n d q e) h.1)
+asks_create false r c h = absurd h
+asks_create true r c h = absurd h
 
 pub asks_delete : (r : DeleteRequest) (c : Change) → IsChange (ops.Delete r) c → (p : Path) × IsTextOf r.path p × (c ≡ delete p r.version)
 unfolding IsChange
@@ -61,11 +69,11 @@ asks_check r c h = absurd h
 
 -- ---- each operation by its row
 
-pub op_create : (naming : Naming) (at : Moment) (s : State) (after : Held) (o sent : Outs) (op : Op) (r : CreateRequest) (change : Change) (result : Result OpResult NotDone) → op ≡ ops.Create r → IsChange op change
-    → ((p : Path) (n : List ℕ) (d : Option (List ℕ)) (q e : Bool) → IsCreate r p n d q e → Performs s (perform naming at s (create p n d q e)) after o sent result)
+pub op_create : (naming : Naming) (at : Moment) (s : State) (after : Held) (o sent : Outs) (op : Op) (w : Bool) (r : CreateRequest) (change : Change) (result : Result OpResult NotDone) → op ≡ creation w r → IsChange op change
+    → ((p : Path) (n : List ℕ) (d : Option (List ℕ)) (q e : Bool) → IsCreate r p n d q e → Performs s (perform naming at s (create p n d q e w)) after o sent result)
     → Performs s (perform naming at s change) after o sent result
-op_create naming at s after o sent op r change result e k does =
-    let a = asks_create r change (subst (λ (x : Op). IsChange x change) e k) in
+op_create naming at s after o sent op w r change result e k does =
+    let a = asks_create w r change (subst (λ (x : Op). IsChange x change) e k) in
     subst (λ (x : Change). Performs s (perform naming at s x) after o sent result) (sym a.6) (does a.0 a.1 a.2 a.3 a.4 a.5)
 
 pub op_delete : (naming : Naming) (at : Moment) (s : State) (after : Held) (o sent : Outs) (op : Op) (r : DeleteRequest) (change : Change) (result : Result OpResult NotDone) → op ≡ ops.Delete r → RefusesOp op None → IsChange op change

@@ -19,6 +19,7 @@ use Rattle.tree_state.specs.Commands.{Change, create, delete, set_content, check
 use Rattle.tree_state.specs.Laws.{IsOneCommand}
 use Rattle.tree_state.proofs.EveryCommand.{some_asked}
 use Rattle.tree_state.proofs.PathTexts.{one_path}
+use Rattle.tree_state.proofs.Answering as answering
 use Rattle.tree_state.proofs.OneChange as changes
 use Rattle.tree_state.proofs.Serving as serving
 
@@ -52,8 +53,8 @@ unfolding IsNamed
 one_name true text p q h k = one_stem_text p q h.0 k.0 (sym h.1 ∙ k.1)
 one_name false text p q h k = one_path text p q h k
 
-one_create : (r : CreateRequest) (p q : Path) (n m : List ℕ) (c d : Option (List ℕ)) (a b : Bool) (e f : Bool) → IsCreate r p n c a e → IsCreate r q m d b f → create p n c a e ≡ create q m d b f
-one_create r p q n m c d a b e f h k =
+one_create : (w : Bool) (r : CreateRequest) (p q : Path) (n m : List ℕ) (c d : Option (List ℕ)) (a b : Bool) (e f : Bool) → IsCreate r p n c a e → IsCreate r q m d b f → create p n c a e w ≡ create q m d b f w
+one_create w r p q n m c d a b e f h k =
     let numbered : a ≡ b = one_truth a b h.numbered k.numbered in
     let kept : e ≡ f = one_truth e f h.kept k.kept in
     let content : c ≡ d = sym h.same_content ∙ k.same_content in
@@ -66,22 +67,26 @@ one_row {C} row text a b h k = h.2 ∙ ap row (one_path text h.0 k.0 h.1 k.1) �
 
 -- ---- the change of an operation
 
+one_creation : (w : Bool) (r : CreateRequest) (a b : Change) → IsChange (changes.creation w r) a → IsChange (changes.creation w r) b → a ≡ b
+one_creation w r a b h k =
+    let x = changes.asks_create w r a h in
+    let y = changes.asks_create w r b k in
+    x.6 ∙ one_create w r x.0 y.0 x.1 y.1 x.2 y.2 x.3 y.3 x.4 y.4 x.5 y.5 ∙ sym y.6
+
 one_change : (op : Op) (a b : Change) → IsChange op a → IsChange op b → a ≡ b
-one_change (ops.Create r) a b h k =
-    let x = changes.asks_create r a h in
-    let y = changes.asks_create r b k in
-    x.6 ∙ one_create r x.0 y.0 x.1 y.1 x.2 y.2 x.3 y.3 x.4 y.4 x.5 y.5 ∙ sym y.6
+one_change (ops.Create r) a b h k = one_creation false r a b h k
+one_change (ops.Create2 r) a b h k = one_creation true r a b h k
 one_change (ops.Delete r) a b h k = one_row (λ p. delete p r.version) r.path a b (changes.asks_delete r a h) (changes.asks_delete r b k)
 one_change (ops.SetContent r) a b h k = one_row (λ p. set_content p r.content r.version) r.path a b (changes.asks_set_content r a h) (changes.asks_set_content r b k)
 one_change (ops.Check r) a b h k = one_row (λ p. check p r.version) r.path a b (changes.asks_check r a h) (changes.asks_check r b k)
 
 -- ---- the command of a request
 
-creates : (r : CreateRequest) (a b : Command) → Asks (requests.Create r) a → Asks (requests.Create r) b → a ≡ b
-unfolding Asks
-creates r (single (create p n c a e)) (single (create q m d b f)) h k = ap single (one_create r p q n m c d a b e f h k)
-creates r (single (create p n c a e)) b h k = absurd k
-creates r a b h k = absurd h
+creates : (w : Bool) (r : CreateRequest) (a b : Command) → Asks (answering.creation w r) a → Asks (answering.creation w r) b → a ≡ b
+creates w r a b h k =
+    let x = answering.asks_create w r a h in
+    let y = answering.asks_create w r b k in
+    x.is ∙ ap single (one_create w r x.path y.path x.name y.name x.content y.content x.sequential y.sequential x.ephemeral y.ephemeral x.asked y.asked) ∙ sym y.is
 
 multis : (list : List Op) (a b : Command) → Asks (requests.Multi list) a → Asks (requests.Multi list) b → a ≡ b
 unfolding Asks
@@ -108,7 +113,7 @@ one_asked : (r : Request) (a b : Command) → Asks r a → Asks r b → a ≡ b
 unfolding Asks
 one_asked (requests.Unknown kind body) a b h k = absurd h
 one_asked (requests.Auth body) a b h k = absurd h
-one_asked (requests.Create r) a b h k = creates r a b h k
+one_asked (requests.Create r) a b h k = creates false r a b h k
 one_asked (requests.Delete r) a b h k = one_row (λ p. single (delete p r.version)) r.path a b (serving.asks_delete r a h) (serving.asks_delete r b k)
 one_asked (requests.Exists r) a b h k = watch_row r stat_at a b (serving.asks_stat r a h) (serving.asks_stat r b k)
 one_asked (requests.GetContent r) a b h k = watch_row r get_content a b (serving.asks_content r a h) (serving.asks_content r b k)
@@ -122,6 +127,7 @@ one_asked requests.Ping a b h k = serving.asks_ping a h ∙ sym (serving.asks_pi
 one_asked (requests.Multi list) a b h k = multis list a b h k
 one_asked (requests.SetWatches r) a b h k = watches r a b h k
 one_asked requests.Close a b h k = serving.asks_close a h ∙ sym (serving.asks_close b k)
+one_asked (requests.Create2 r) a b h k = creates true r a b h k
 
 -- ---- refused or asked
 

@@ -30,34 +30,34 @@ passed b code next h = ap (λ (x : Bool). refuse x code next) h
 
 -- ---- create
 
-pub create_missing : (naming : Naming) (at : Moment) (s : State) (p : Path) (n : List ℕ) (d : Option (List ℕ)) (q e : Bool) → find s.nodes p ≡ None → perform naming at s (create p n d q e) ≡ failed no_node
+pub create_missing : (naming : Naming) (at : Moment) (s : State) (p : Path) (n : List ℕ) (d : Option (List ℕ)) (q e w : Bool) → find s.nodes p ≡ None → perform naming at s (create p n d q e w) ≡ failed no_node
 unfolding perform
-create_missing naming at s p n d q e h = lacking _ _ _ h
+create_missing naming at s p n d q e w h = lacking _ _ _ h
 
-pub create_owned : (naming : Naming) (at : Moment) (s : State) (p : Path) (n : List ℕ) (d : Option (List ℕ)) (q e : Bool) (up : Node) → find s.nodes p ≡ Some up → has_owner up ≡ true
-    → perform naming at s (create p n d q e) ≡ failed no_children_for_ephemerals
+pub create_owned : (naming : Naming) (at : Moment) (s : State) (p : Path) (n : List ℕ) (d : Option (List ℕ)) (q e w : Bool) (up : Node) → find s.nodes p ≡ Some up → has_owner up ≡ true
+    → perform naming at s (create p n d q e w) ≡ failed no_children_for_ephemerals
 unfolding perform
-create_owned naming at s p n d q e up h o = needed _ _ _ _ h ∙ refused_so _ _ _ o
+create_owned naming at s p n d q e w up h o = needed _ _ _ _ h ∙ refused_so _ _ _ o
 
-pub create_full : (naming : Naming) (at : Moment) (s : State) (p : Path) (n : List ℕ) (d : Option (List ℕ)) (q e : Bool) (up : Node) → find s.nodes p ≡ Some up → has_owner up ≡ false → is_at_last up.numbers.creations ≡ true
-    → perform naming at s (create p n d q e) ≡ failed system_error
+pub create_full : (naming : Naming) (at : Moment) (s : State) (p : Path) (n : List ℕ) (d : Option (List ℕ)) (q e w : Bool) (up : Node) → find s.nodes p ≡ Some up → has_owner up ≡ false → is_at_last up.numbers.creations ≡ true
+    → perform naming at s (create p n d q e w) ≡ failed system_error
 unfolding perform
-create_full naming at s p n d q e up h o l = needed _ _ _ _ h ∙ passed _ _ _ o ∙ refused_so _ _ _ l
+create_full naming at s p n d q e w up h o l = needed _ _ _ _ h ∙ passed _ _ _ o ∙ refused_so _ _ _ l
 
-pub create_unnamed : (naming : Naming) (at : Moment) (s : State) (p : Path) (n : List ℕ) (d : Option (List ℕ)) (q e : Bool) (up : Node) → IsParent s p up → name_for naming p n q up ≡ None
-    → perform naming at s (create p n d q e) ≡ failed bad_arguments
+pub create_unnamed : (naming : Naming) (at : Moment) (s : State) (p : Path) (n : List ℕ) (d : Option (List ℕ)) (q e w : Bool) (up : Node) → IsParent s p up → name_for naming p n q up ≡ None
+    → perform naming at s (create p n d q e w) ≡ failed bad_arguments
 unfolding perform
-create_unnamed naming at s p n d q e up h m = needed _ _ _ _ h.there ∙ passed _ _ _ h.free ∙ passed _ _ _ h.room ∙ lacking _ _ _ m
+create_unnamed naming at s p n d q e w up h m = needed _ _ _ _ h.there ∙ passed _ _ _ h.free ∙ passed _ _ _ h.room ∙ lacking _ _ _ m
 
-pub create_there : (naming : Naming) (at : Moment) (s : State) (p : Path) (n m : List ℕ) (d : Option (List ℕ)) (q e : Bool) (up : Node) → IsParent s p up → name_for naming p n q up ≡ Some m → is_there s.nodes (m ∷ p) ≡ true
-    → perform naming at s (create p n d q e) ≡ failed node_exists
+pub create_there : (naming : Naming) (at : Moment) (s : State) (p : Path) (n m : List ℕ) (d : Option (List ℕ)) (q e w : Bool) (up : Node) → IsParent s p up → name_for naming p n q up ≡ Some m → is_there s.nodes (m ∷ p) ≡ true
+    → perform naming at s (create p n d q e w) ≡ failed node_exists
 unfolding perform
-create_there naming at s p n m d q e up h k t = needed _ _ _ _ h.there ∙ passed _ _ _ h.free ∙ passed _ _ _ h.room ∙ needed _ _ _ _ k ∙ refused_so _ _ _ t
+create_there naming at s p n m d q e w up h k t = needed _ _ _ _ h.there ∙ passed _ _ _ h.free ∙ passed _ _ _ h.room ∙ needed _ _ _ _ k ∙ refused_so _ _ _ t
 
-pub create_done : (naming : Naming) (at : Moment) (s : State) (p : Path) (n m : List ℕ) (d : Option (List ℕ)) (q e : Bool) (up : Node) → IsParent s p up → name_for naming p n q up ≡ Some m → is_there s.nodes (m ∷ p) ≡ false
-    → perform naming at s (create p n d q e) ≡ done (created at p m (record { content = d; numbers = fresh_numbers at e }) s)
+pub create_done : (naming : Naming) (at : Moment) (s : State) (p : Path) (n m : List ℕ) (d : Option (List ℕ)) (q e w : Bool) (up : Node) → IsParent s p up → name_for naming p n q up ≡ Some m → is_there s.nodes (m ∷ p) ≡ false
+    → perform naming at s (create p n d q e w) ≡ done (created at p m (record { content = d; numbers = fresh_numbers at e }) w s)
 unfolding perform
-create_done naming at s p n m d q e up h k t = needed _ _ _ _ h.there ∙ passed _ _ _ h.free ∙ passed _ _ _ h.room ∙ needed _ _ _ _ k ∙ passed _ _ _ t
+create_done naming at s p n m d q e w up h k t = needed _ _ _ _ h.there ∙ passed _ _ _ h.free ∙ passed _ _ _ h.room ∙ needed _ _ _ _ k ∙ passed _ _ _ t
 
 -- ---- delete
 

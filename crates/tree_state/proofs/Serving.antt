@@ -25,6 +25,7 @@ use Rattle.tree_state.specs.Commands.{Command, Asks, AreTextsOf, single, set_acl
 use Rattle.tree_state.specs.Changes.{Naming, perform, deleted, no_effects, all_deleted}
 use Rattle.tree_state.specs.Step.{Answer, answer, answer_single, told_only, closed, ended, watches_gone, connection_at}
 use Rattle.tree_state.specs.Trees.{Means, Answers, HasRoom, Tells, IsOther}
+use Rattle.tree_state.proofs.Answering.{creation}
 use Rattle.tree_state.proofs.Alone.{Sent, untold, told_answers}
 use Rattle.tree_state.proofs.BelowRoot.{below_root}
 
@@ -238,9 +239,10 @@ serve_close naming at c s x h before sent command live on a m events room =
 
 -- ---- requests that no row is asked for
 
-pub not_create : (r : Request) (x : CreateRequest) → r ≡ requests.Create x → IsOther r → ⊥
+pub not_create : (r : Request) (w : Bool) (x : CreateRequest) → r ≡ creation w x → IsOther r → ⊥
 unfolding IsOther
-not_create r x e h = subst IsOther e h
+not_create r false x e h = subst IsOther e h
+not_create r true x e h = subst IsOther e h
 
 pub not_multi : (r : Request) (x : List Op) → r ≡ requests.Multi x → IsOther r → ⊥
 unfolding IsOther

@@ -12,7 +12,7 @@ use Rattle.tree_state.specs.declared.message.Message.TheVariants as messages
 use Rattle.tree_state.specs.declared.message.Output.{Output}
 use Rattle.tree_state.specs.declared.node.Numbers.{Numbers}
 use Rattle.tree_state.specs.declared.node.Moment.{Moment}
-use Rattle.tree_state.specs.Nodes.{Path, Node, above, find, is_there, change, add, remove, has_children, stat_of, greatest_int}
+use Rattle.tree_state.specs.Nodes.{Path, Node, Place, above, find, is_there, change, add, remove, has_children, stat_of, greatest_int}
 use Rattle.tree_state.specs.State.{State, Watch, on_data, on_children, told, left}
 use Rattle.tree_state.specs.Commands.{Change, create, delete, set_content, check}
 
@@ -149,15 +149,24 @@ content_events p ws = events_to (pos 3) p (told on_data p ws)
 
 -- ---- what changes do
 
--- a node is made
-unfoldable pub created : Moment → Path → List ℕ → Node → State → Effect
-created at p n node s = record {
+-- the nodes with a new one, which its parent counts
+abbrev pub with_child : ℤ → Path → List ℕ → Node → List Place → List Place
+with_child z p n node es = add (n ∷ p) node (change p (with_creation z) es)
+
+-- what is answered to a creation: the path of the new node, with or without its Stat among these nodes
+unfoldable pub creation_result : Bool → List Place → Path → Node → OpResult
+creation_result false es p node = results.Created (text_of p)
+creation_result true es p node = results.Created2 (text_of p) (stat_of es p node)
+
+-- a node is made, and its Stat is of the nodes with it
+unfoldable pub created : Moment → Path → List ℕ → Node → Bool → State → Effect
+created at p n node stat s = record {
   state = record s {
-    nodes = add (n ∷ p) node (change p (with_creation at.zxid) s.nodes);
+    nodes = with_child at.zxid p n node s.nodes;
     watches = left_by_creation p n s.watches;
     last = at.zxid;
   };
-  result = results.Created (text_of (n ∷ p));
+  result = creation_result stat (with_child at.zxid p n node s.nodes) (n ∷ p) node;
   events = creation_events p n s.watches;
 }
 
@@ -188,13 +197,13 @@ updated at p content node s = record {
 -- ---- the rows
 
 unfoldable pub perform : Naming → Moment → State → Change → Trial ℤ Effect
-perform naming at s (create p n content sequential ephemeral) =
+perform naming at s (create p n content sequential ephemeral stat) =
     need (find s.nodes p) no_node λ up.
     refuse (has_owner up) no_children_for_ephemerals (
     refuse (is_at_last up.numbers.creations) system_error (
     need (name_for naming p n sequential up) bad_arguments λ name.
     refuse (is_there s.nodes (name ∷ p)) node_exists (
-    done (created at p name (record { content = content; numbers = fresh_numbers at ephemeral }) s))))
+    done (created at p name (record { content = content; numbers = fresh_numbers at ephemeral }) stat s))))
 perform naming at s (delete p version) =
     need (find s.nodes p) no_node λ node.
     refuse (is_other_version version node.numbers.version) bad_version (

@@ -12,8 +12,9 @@ use Rattle.tree_state.specs.Nodes.{Path}
 
 -- a change of one node
 pub data Change : Type 0 where
-  -- under a parent; the name, or the stem's last component, the content, whether it is sequential, and ephemeral
-  create : Path → List ℕ → Option (List ℕ) → Bool → Bool → Change
+  -- under a parent; the name, or the stem's last component, the content, whether it is sequential, and ephemeral, and whether
+  -- it is answered with a Stat
+  create : Path → List ℕ → Option (List ℕ) → Bool → Bool → Bool → Change
   -- with the version that is asked for
   delete : Path → ℤ → Change
   set_content : Path → Option (List ℕ) → ℤ → Change
@@ -53,7 +54,8 @@ pub record IsCreate (r : CreateRequest) (p : Path) (n : List ℕ) (content : Opt
   pub kept : IsTrue ephemeral ↔ IsEphemeral r.flags
 
 unfoldable pub IsChange : Op → Change → Type 0
-IsChange (ops.Create r) (create p n content sequential ephemeral) = IsCreate r p n content sequential ephemeral
+IsChange (ops.Create r) (create p n content sequential ephemeral stat) = IsCreate r p n content sequential ephemeral × (stat ≡ false)
+IsChange (ops.Create2 r) (create p n content sequential ephemeral stat) = IsCreate r p n content sequential ephemeral × (stat ≡ true)
 IsChange (ops.Delete r) (delete p version) = IsTextOf r.path p × (r.version ≡ version)
 IsChange (ops.SetContent r) (set_content p content version) = IsTextOf r.path p × (r.content ≡ content) × (r.version ≡ version)
 IsChange (ops.Check r) (check p version) = IsTextOf r.path p × (r.version ≡ version)
@@ -61,7 +63,8 @@ IsChange op change = ⊥
 
 -- what a request asks that is not refused
 unfoldable pub Asks : Request → Command → Type 0
-Asks (requests.Create r) (single (create p n content sequential ephemeral)) = IsCreate r p n content sequential ephemeral
+Asks (requests.Create r) (single (create p n content sequential ephemeral stat)) = IsCreate r p n content sequential ephemeral × (stat ≡ false)
+Asks (requests.Create2 r) (single (create p n content sequential ephemeral stat)) = IsCreate r p n content sequential ephemeral × (stat ≡ true)
 Asks (requests.Delete r) (single (delete p version)) = IsTextOf r.path p × (r.version ≡ version)
 Asks (requests.Exists r) (stat_at p watch) = IsTextOf r.path p × (r.watch ≡ watch)
 Asks (requests.GetContent r) (get_content p watch) = IsTextOf r.path p × (r.watch ≡ watch)

@@ -41,6 +41,7 @@ or_error s (done a) = a
 -- what a change that was done alone is answered with
 unfoldable pub outcome_of : OpResult → Outcome
 outcome_of (results.Created path) = outcomes.Path path
+outcome_of (results.Created2 path stat) = outcomes.Created2 path stat
 outcome_of results.Deleted = outcomes.Empty
 outcome_of (results.Changed stat) = outcomes.Stat stat
 outcome_of results.Checked = outcomes.Empty

@@ -99,8 +99,8 @@ pub record IsParent (s : State) (p : Path) (up : Node) : Type 0 where
 -- the checks of create before a name is given: with how many creations it goes on, or the code of an error
 unfoldable pub MayCreate : State → Path → Result ℕ ℤ → Type 0
 MayCreate s p (Ok creations) = (up : Node) × IsParent s p up × (creations ≡ up.numbers.creations)
-MayCreate s p (Err code) = (naming : Naming) (at : Moment) (n : List ℕ) (content : Option (List ℕ)) (sequential ephemeral : Bool)
-    → perform naming at s (create p n content sequential ephemeral) ≡ failed code
+MayCreate s p (Err code) = (naming : Naming) (at : Moment) (n : List ℕ) (content : Option (List ℕ)) (sequential ephemeral stat : Bool)
+    → perform naming at s (create p n content sequential ephemeral stat) ≡ failed code
 
 -- a change is of a session that was given
 pub record IsMoment (s : State) (at : Moment) : Type 0 where
@@ -138,9 +138,10 @@ pub record IsNaming (named : List ℕ → ℕ → List ℕ → Type 0) (naming :
 
 -- ---- rows
 
--- a request other than create and multi
+-- a request other than create, create2 and multi
 unfoldable pub IsOther : Request → Type 0
 IsOther (requests.Create r) = ⊥
+IsOther (requests.Create2 r) = ⊥
 IsOther (requests.Multi list) = ⊥
 IsOther r = Unit {0}
 

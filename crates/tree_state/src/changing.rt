@@ -7,7 +7,7 @@ ghost use Rattle.tree_state.specs.declared.message.Output.{Output as PlainOutput
 ghost use Rattle.tree_state.specs.Commands.{set_acl, create, delete, set_content, check};
 ghost use Rattle.tree_state.specs.Nodes.{Path, Node, find, has_children, stat_of, greatest_int};
 ghost use Rattle.tree_state.specs.State.{State};
-ghost use Rattle.tree_state.specs.Changes.{Naming, perform, name_for, is_other_version, deleted};
+ghost use Rattle.tree_state.specs.Changes.{Naming, perform, name_for, is_other_version, creation_result, deleted};
 ghost use Rattle.tree_state.specs.Step.{answer};
 ghost use Rattle.tree_state.specs.Places.{text_limit};
 ghost use Rattle.tree_state.specs.Trees.{Means, Stays, Quietly, Performs, MayCreate, IsParent, IsMoment, HasRoom, RefusesQuietly};
@@ -54,13 +54,14 @@ impl Held {
         Ok(up.numbers.creations)
     }
 
-    // The rest of create: makes the node at the path with this text, under a parent that may have it.
+    // The rest of create: makes the node at the path with this text, under a parent that may have it, and tells its Stat, or not.
     pub(crate) fn create(
         &mut self,
         alloc: Global,
         path: &str,
         content: &Option<Bytes>,
         ephemeral: bool,
+        stat: bool,
         at: &Moment,
         outputs: &mut Vec<Output>,
     ) -> Result<OpResult, NotDone>
@@ -68,7 +69,7 @@ impl Held {
         requires room { length path.now ≤ text_limit }
         ensures performs { (naming : Naming) (s : State) (p : Path) (n m : List ℕ) (sequential : Bool) (up : Node) → Means self.old s → IsTextOf path.now (m ∷ p)
             → IsMoment s at.now → IsParent s p up → name_for naming p n sequential up ≡ Some m
-            → Performs s (perform naming at.now s (create p n content.now sequential ephemeral)) self.new outputs.old outputs.new result }
+            → Performs s (perform naming at.now s (create p n content.now sequential ephemeral stat)) self.new outputs.old outputs.new result }
         ensures room { OnOk result (HasRoom outputs.new) }
         ensures kept { OnErr result (Stays self.old self.new) }
         ensures quiet { RefusesQuietly result outputs.old outputs.new }
@@ -86,7 +87,18 @@ impl Held {
         }
         self.watches.created(path);
         self.last = at.zxid;
-        Ok(OpResult::Created(made))
+        Ok(self.creation(made, stat))
+    }
+
+    // What is answered to the creation of a node that is there: its path, with or without its Stat.
+    fn creation(&self, path: Text, stat: bool) -> OpResult
+        ensures { (s : State) (p : Path) (node : Node) → Means self.now s → IsTextOf path p → find s.nodes p ≡ Some node → result ≡ creation_result stat s.nodes p node }
+    {
+        if stat {
+            let stat = self.changed(path.as_str());
+            return OpResult::Created2 { path, stat };
+        }
+        OpResult::Created(path)
     }
 
     // delete.

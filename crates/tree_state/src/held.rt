@@ -1,4 +1,4 @@
-//! What a tree holds, and the rows of the machine over it but those of create and multi.
+//! What a tree holds, and the rows of the machine over it but those of create, create2 and multi.
 
 ghost use Rattle.std.specs.Prelude.{◌≡◌, ◌≤◌, ℕ, ℤ, Err, Some, None, IfOk, OnOk, OnErr, Vec};
 ghost use Rattle.std.specs.Global.{Global as G};
@@ -67,7 +67,7 @@ impl Held {
         })
     }
 
-    // The row of a request that is not refused, and neither create nor multi.
+    // The row of a request that is not refused, and is neither create, create2 nor multi.
     pub(crate) fn serve(
         &mut self,
         alloc: Global,
@@ -103,10 +103,13 @@ impl Held {
                 self.end_session(alloc, at, outputs)?;
                 Ok(Outcome::Empty)
             }
-            Request::Create(_) | Request::Multi(_) | Request::Auth(_) | Request::Unknown { .. } =>
-                Ok(Outcome::Error {
-                    code: UNIMPLEMENTED,
-                }),
+            Request::Create(_)
+            | Request::Create2(_)
+            | Request::Multi(_)
+            | Request::Auth(_)
+            | Request::Unknown { .. } => Ok(Outcome::Error {
+                code: UNIMPLEMENTED,
+            }),
         }
     }
 }
@@ -144,6 +147,7 @@ fn outcome(done: OpResult) -> Outcome
 {
     match done {
         OpResult::Created(path) => Outcome::Path(path),
+        OpResult::Created2 { path, stat } => Outcome::Created2 { path, stat },
         OpResult::Deleted | OpResult::Checked => Outcome::Empty,
         OpResult::Changed(stat) => Outcome::Stat(stat),
         OpResult::Error { code } => Outcome::Error { code },

@@ -48,7 +48,8 @@ impl Held {
         ensures names { (stem : List ℕ) (number : ℕ) (text : List ℕ) → N.named numberer.new stem number text ↔ N.named numberer.old stem number text }
     {
         match op {
-            Op::Create(asked) => self.make(alloc, numberer, asked, at, outputs),
+            Op::Create(asked) => self.make(alloc, numberer, asked, false, at, outputs),
+            Op::Create2(asked) => self.make(alloc, numberer, asked, true, at, outputs),
             Op::Delete(asked) => self.delete(
                 alloc,
                 asked.path.as_str(),

@@ -1,4 +1,4 @@
-//! The row of create, which asks a numberer for the names of sequential nodes.
+//! The row of create and create2, which asks a numberer for the names of sequential nodes.
 
 ghost use Rattle.std.specs.Prelude.{◌≡◌, ◌<◌, ◌≤◌, ◌↔◌, ℕ, List, length, Bool, Option, IfOk, IfSome, IsTrue, OnOk, OnErr};
 ghost use Rattle.zk_messages.specs.Refuses.{IsSequential};
@@ -23,12 +23,13 @@ use zk_records::CreateRequest;
 const BAD_ARGUMENTS: i32 = -8;
 
 impl Held {
-    // The row of create. The numberer may give a number also where nothing is made.
+    // The row of create, and with a Stat of create2. The numberer may give a number also where nothing is made.
     pub(crate) fn make<N: Numberer>(
         &mut self,
         alloc: Global,
         numberer: &mut N,
         asked: &CreateRequest,
+        stat: bool,
         at: &Moment,
         outputs: &mut Vec<Output>,
     ) -> Result<OpResult, NotDone>
@@ -36,7 +37,7 @@ impl Held {
         requires content { IsShortContent asked.now.content }
         ensures performs { (naming : Naming) (s : State) (p : Path) (n : List ℕ) (content : Option (List ℕ)) (sequential ephemeral : Bool) → Means self.old s → IsMoment s at.now
             → IsNaming (N.named numberer.old) naming → IsCreate asked.now p n content sequential ephemeral
-            → Performs s (perform naming at.now s (create p n content sequential ephemeral)) self.new outputs.old outputs.new result }
+            → Performs s (perform naming at.now s (create p n content sequential ephemeral stat)) self.new outputs.old outputs.new result }
         ensures room { OnOk result (HasRoom outputs.new) }
         ensures kept { OnErr result (Stays self.old self.new) }
         ensures quiet { RefusesQuietly result outputs.old outputs.new }
@@ -53,7 +54,15 @@ impl Held {
             });
         };
         let ephemeral = is_ephemeral(asked);
-        self.create(alloc, path.as_str(), &asked.content, ephemeral, at, outputs)
+        self.create(
+            alloc,
+            path.as_str(),
+            &asked.content,
+            ephemeral,
+            stat,
+            at,
+            outputs,
+        )
     }
 }
 

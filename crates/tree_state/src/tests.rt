@@ -29,6 +29,7 @@ type Plain = Tree<PlainNumberer>;
 #[derive(Clone, Copy)]
 enum Ask {
     Create(&'static str, Option<&'static [u8]>, i32),
+    Create2(&'static str, Option<&'static [u8]>, i32),
     Delete(&'static str, i32),
     Exists(&'static str),
     Get(&'static str),
@@ -53,6 +54,7 @@ enum Ask {
 #[derive(Clone, Copy)]
 enum Part {
     Create(&'static str, i32),
+    Create2(&'static str, i32),
     Delete(&'static str, i32),
     Set(&'static str, i32),
     Check(&'static str, i32),
@@ -157,6 +159,9 @@ fn request_of(alloc: Global, ask: Ask) -> Result<Request, Fail>
 {
     Ok(match ask {
         Ask::Create(path, content, flags) => Request::Create(create(alloc, path, content, flags)?),
+        Ask::Create2(path, content, flags) => Request::Create2(create(
+            alloc, path, content, flags,
+        )?),
         Ask::Delete(path, version) => Request::Delete(delete(alloc, path, version)?),
         Ask::Exists(path) => Request::Exists(path_watch(alloc, path, false)?),
         Ask::Get(path) => Request::GetContent(path_watch(alloc, path, false)?),
@@ -213,6 +218,7 @@ fn op(alloc: Global, part: Part) -> Result<Option<Op>, Fail>
 {
     Ok(match part {
         Part::Create(path, flags) => Some(Op::Create(create(alloc, path, None, flags)?)),
+        Part::Create2(path, flags) => Some(Op::Create2(create(alloc, path, None, flags)?)),
         Part::Delete(path, version) => Some(Op::Delete(delete(alloc, path, version)?)),
         Part::Set(path, version) => Some(Op::SetContent(set(alloc, path, b"set", version)?)),
         Part::Check(path, version) => Some(Op::Check(CheckRequest {
@@ -388,6 +394,53 @@ fn a_root_that_had_the_most_children_has_no_more(rt: HostRuntime) -> Result<(), 
     Ok(())
 }
 
+// The Stat of a node that the change with zxid 2 made, with this time and length.
+fn made_at(time: i64, length: i32) -> Stat {
+    Stat {
+        czxid: 2,
+        mzxid: 2,
+        ctime: time,
+        mtime: time,
+        version: 0,
+        cversion: 0,
+        aversion: 0,
+        owner: 0,
+        length,
+        children: 0,
+        pzxid: 2,
+    }
+}
+
+// Whether a creation is answered with this path and this Stat.
+fn is_created(outputs: &Outputs, at: &str, with: Stat) -> bool {
+    match reply_in(outputs) {
+        Some(
+            Reply {
+                zxid: 2,
+                outcome: Outcome::Created2 { path, stat },
+                ..
+            },
+        ) => path.as_str() == at && *stat == with,
+        _ => false,
+    }
+}
+
+#[test]
+fn a_node_is_made_and_its_stat_told(rt: HostRuntime) -> Result<(), Fail> {
+    let alloc = rt.alloc();
+    let mut tree = opened(alloc, 0)?;
+    let made = applied(
+        alloc,
+        &mut tree,
+        1_000,
+        Ask::Create2("/app", Some(b"hello"), 0),
+    )?;
+    assert!(rt; is_created(&made, "/app", made_at(1_000, 5)));
+    let made = applied(alloc, &mut tree, 1_000, Ask::Create2("/app", None, 0))?;
+    assert_eq!(rt; code_in(&made), -110);
+    Ok(())
+}
+
 #[test]
 fn a_node_is_made_with_its_stat(rt: HostRuntime) -> Result<(), Fail> {
     let alloc = rt.alloc();
@@ -399,20 +452,7 @@ fn a_node_is_made_with_its_stat(rt: HostRuntime) -> Result<(), Fail> {
         Ask::Create("/app", Some(b"hello"), 0),
     )?;
     assert!(rt; path_in(&made) == "/app" && reply_in(&made).is_some_and(|reply| reply.zxid == 2));
-    let expected = Stat {
-        czxid: 2,
-        mzxid: 2,
-        ctime: 1_000,
-        mtime: 1_000,
-        version: 0,
-        cversion: 0,
-        aversion: 0,
-        owner: 0,
-        length: 5,
-        children: 0,
-        pzxid: 2,
-    };
-    assert_eq!(rt; tree.stat("/app"), Some(expected));
+    assert_eq!(rt; tree.stat("/app"), Some(made_at(1_000, 5)));
     let told = applied(alloc, &mut tree, 1_000, Ask::Get("/app"))?;
     assert!(rt; has_content(&told, Some(b"hello"), 0));
     Ok(())

@@ -144,12 +144,14 @@ impl<N: Numberer + Drop> Tree<N> {
             return Ok(Outcome::Error { code });
         }
         match request {
-            Request::Create(asked) => {
-                alone(
-                    self.held
-                        .make(alloc, &mut self.numberer, asked, at, outputs),
-                )
-            }
+            Request::Create(asked) => alone(
+                self.held
+                    .make(alloc, &mut self.numberer, asked, false, at, outputs),
+            ),
+            Request::Create2(asked) => alone(
+                self.held
+                    .make(alloc, &mut self.numberer, asked, true, at, outputs),
+            ),
             Request::Multi(ops) => self.multi(alloc, ops, at, outputs),
             request => self.held.serve(alloc, at, connection, request, outputs),
         }

@@ -1,13 +1,14 @@
 //! Several changes as one.
 
 use super::watching::{replies, tells};
-use super::{Ask, Outputs, Part, asked_by, opened, opened_twice};
-use crate::message::Message;
+use super::{Ask, Outputs, Part, asked_by, made_at, opened, opened_twice};
+use crate::message::{Message, Output};
 use std::test::Fail;
 use zk_messages::{OpResult, Outcome, Reply};
+use zk_records::Stat;
 
-// The results of the reply at the index: the code of each error, 1 for a node that was made, 2 removed, 5 changed and 13 checked; 9
-// where there is none.
+// The results of the reply at the index: the code of each error, 1 for a node that was made, 2 removed, 5 changed, 13 checked and
+// 15 made with its Stat; 9 where there is none.
 fn results(outputs: &Outputs, index: usize) -> [i32; 3] {
     let mut found = [9; 3];
     let Some(output) = outputs.get(index) else {
@@ -23,6 +24,7 @@ fn results(outputs: &Outputs, index: usize) -> [i32; 3] {
         for (place, result) in found.iter_mut().zip(results.as_slice()) {
             *place = match result {
                 OpResult::Created(_) => 1,
+                OpResult::Created2 { .. } => 15,
                 OpResult::Deleted => 2,
                 OpResult::Changed(_) => 5,
                 OpResult::Checked => 13,
@@ -73,6 +75,45 @@ fn later_parts_see_earlier_ones_under_one_zxid(rt: HostRuntime) -> Result<(), Fa
             .is_some_and(|stat| stat.czxid == 2)
     );
     assert_eq!(rt; tree.last(), 2);
+    Ok(())
+}
+
+// The Stat of the first node that a multi made.
+fn first_stat(outputs: &Outputs) -> Option<Stat> {
+    let Some(
+        Output {
+            message: Message::Reply(
+                Reply {
+                    outcome: Outcome::Multi(results),
+                    ..
+                },
+            ),
+            ..
+        },
+    ) = outputs.get(0)
+    else {
+        return None;
+    };
+    match results.get(0) {
+        Some(OpResult::Created2 { stat, .. }) => Some(*stat),
+        _ => None,
+    }
+}
+
+// The Stat is as the node was made, before it was changed.
+#[test]
+fn a_part_tells_the_stat_after_it(rt: HostRuntime) -> Result<(), Fail> {
+    let alloc = rt.alloc();
+    let mut tree = opened(alloc, 0)?;
+    let parts = Ask::Multi(
+        Part::Create2("/b", 0),
+        Part::Check("/b", 0),
+        Part::Set("/b", 0),
+    );
+    let told = asked_by(alloc, &mut tree, 0, 1, parts)?;
+    assert_eq!(rt; results(&told, 0), [15, 13, 5]);
+    assert_eq!(rt; first_stat(&told), Some(made_at(0, 0)));
+    assert!(rt; replies(&told, 0, 1, 2));
     Ok(())
 }
 

@@ -7,7 +7,7 @@ use Rattle.tree_state.proofs.held.Held.create.Goals.{in-Some, in_default}
 
 pub returns-then-is_some-clause-performs : goal.returns-then-is_some-clause-performs
 returns-then-is_some-clause-performs c = λ naming s p n m q up means t mo parent named.
-    create_exists naming c.args.at.now s p n m _ q c.args.ephemeral up c.args.self.now _ c.find.result means parent named (c.find.ensures s.nodes (m ∷ p) means.places t) c.if-is_some.ensures
+    create_exists naming c.args.at.now s p n m _ q c.args.ephemeral c.args.stat up c.args.self.now _ c.find.result means parent named (c.find.ensures s.nodes (m ∷ p) means.places t) c.if-is_some.ensures
 
 pub returns-in_err-made-clause-performs : goal.returns-in_err-made-clause-performs
 returns-in_err-made-clause-performs c = λ naming s p n m q up means t mo parent named. memory_out s _ c.args.self.now _ _ _ means c.from_residual.ensures.1
@@ -42,6 +42,6 @@ returns-clause-performs c = λ naming s p n m q up means t mo parent named.
           join c.args.self.now _ _ _ _ _ _ _ _ c.in_ok-own.own _ w.in-Some.is c.in_ok-own.ensures.asked c.in_ok-own.ensures.text (to_z-of_z w64 c.args.at.now.session z) c.in_ok-own.ensures.kept w.own.ensures w.self-is
       | in_default w ↦ no_join c.args.self.now _ _ _ _ _ _ c.in_ok-own.own w.in_default.is c.in_ok-own.ensures.asked c.in_ok-own.ensures.kept w.self-is
     ] in
-    create_makes naming c.args.at.now s p n m _ _ q c.args.ephemeral up c.args.self.now c.match-own-2.self _ c.add.new.self _ _ c.args.path.now _ c.find.result means t mo parent named (c.find.ensures s.nodes (m ∷ p) means.places t) c.if-is_some.ensures
+    create_makes naming c.args.at.now s p n m _ _ q c.args.ephemeral c.args.stat up c.args.self.now c.match-own-2.self _ c.add.new.self _ _ c.args.path.now _ _ c.find.result means t mo parent named (c.find.ensures s.nodes (m ∷ p) means.places t) c.if-is_some.ensures
     c.requires.short c.requires.room c.in_ok-content.ensures c.in_ok-made.ensures
-    (c.in_ok-tell_created.ensures.events s.watches p m means.watches t) joins refl refl c.created.ensures (to_z-of_z w64 c.args.at.now.zxid f) c.in_ok-add.ensures.ok
+    (c.in_ok-tell_created.ensures.events s.watches p m means.watches t) joins refl refl c.created.ensures (to_z-of_z w64 c.args.at.now.zxid f) c.in_ok-add.ensures.ok c.creation.ensures

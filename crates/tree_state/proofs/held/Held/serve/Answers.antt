@@ -1,4 +1,4 @@
-use Rattle.std.proofs.Common.{rules, w32, inl, inr}
+use Rattle.std.proofs.Common.{true, false, rules, w32, inl, inr}
 use Rattle.std.specs.Int.RustNames.{FitsSigned}
 use Rattle.std.proofs.lemmas.Int.{to_z-of_z}
 use Rattle.tree_state.specs.Commands.{get_acl}
@@ -79,12 +79,15 @@ returns-in_err-end_session-in-Close c = λ naming s x command m im live on room 
 pub returns-in-Create : goal.returns-in-Create
 returns-in-Create c = λ naming s x command m im live on room ot rf a.
     absurd (elim c.in-Create.is [
-      | inl w ↦ not_create c.args.request.now w.0 w.1 ot
+      | inl w ↦ not_create c.args.request.now false w.0 w.1 ot
       | inr u ↦ elim u [
-        | inl w ↦ not_multi c.args.request.now w.0 w.1 ot
-        | inr y ↦ elim y [
-          | inl w ↦ not_auth c.args.request.now w.0 w.1 rf
-          | inr w ↦ not_unknown c.args.request.now w.0 w.1 w.2 rf
+        | inl w ↦ not_create c.args.request.now true w.0 w.1 ot
+        | inr v ↦ elim v [
+          | inl w ↦ not_multi c.args.request.now w.0 w.1 ot
+          | inr y ↦ elim y [
+            | inl w ↦ not_auth c.args.request.now w.0 w.1 rf
+            | inr w ↦ not_unknown c.args.request.now w.0 w.1 w.2 rf
+          ]
         ]
       ]
     ])

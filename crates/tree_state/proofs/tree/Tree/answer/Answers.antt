@@ -1,4 +1,4 @@
-use Rattle.std.proofs.Common.{◌≡◌, ℤ, Option, None, subst, rules, w32}
+use Rattle.std.proofs.Common.{◌≡◌, ℤ, true, false, Option, None, subst, rules, w32}
 use Rattle.std.specs.Int.RustNames.{FitsSigned}
 use Rattle.std.proofs.lemmas.Int.{to_z-of_z}
 use Rattle.zk_messages.specs.Refuses.{Refuses}
@@ -16,7 +16,12 @@ refusal_of-requires g c = request_judged c.args.request.now c.requires.short
 
 pub make-requires : goal.make-requires
 make-requires g c =
-    let short = short_create c.args.request.now c.in-Create.asked c.in-Create.is c.requires.short in
+    let short = short_create c.args.request.now false c.in-Create.asked c.in-Create.is c.requires.short in
+    record { path = short.0; content = short.1 }
+
+pub make-requires-in-Create2 : goal.make-requires-in-Create2
+make-requires-in-Create2 g c =
+    let short = short_create c.args.request.now true c.in-Create2.asked c.in-Create2.is c.requires.short in
     record { path = short.0; content = short.1 }
 
 pub multi-requires : goal.multi-requires
@@ -40,12 +45,21 @@ returns-in-Some-clause-kept g c = λ s x m im live on room. left_room s c.args.s
 
 pub returns-in-Create-clause-answers : goal.returns-in-Create-clause-answers
 returns-in-Create-clause-answers g c = λ naming s x command m im live on room nm a.
-    create_answers naming c.args.at.now c.args.connection s c.make.new.self c.args.outputs.now _ c.args.request.now c.in-Create.asked command _ c.in-Create.is (not_refused _ _ c.in_default.is c.refusal_of.ensures) a
+    create_answers naming c.args.at.now c.args.connection s c.make.new.self c.args.outputs.now _ c.args.request.now false c.in-Create.asked command _ c.in-Create.is (not_refused _ _ c.in_default.is c.refusal_of.ensures) a
     (λ p n d q e h. c.alone.ensures.answers s _ _ c.args.outputs.now _ room c.make.ensures.room (c.make.ensures.performs naming s p n d q e m im nm h))
 
 pub returns-in-Create-clause-kept : goal.returns-in-Create-clause-kept
 returns-in-Create-clause-kept g c = λ s x m im live on room.
     c.alone.ensures.kept s c.make.new.self c.args.outputs.now _ room c.make.ensures.room (stays_means c.make.result s c.args.self.now.held _ m c.make.ensures.kept) c.make.ensures.quiet
+
+pub returns-in-Create2-clause-answers : goal.returns-in-Create2-clause-answers
+returns-in-Create2-clause-answers g c = λ naming s x command m im live on room nm a.
+    create_answers naming c.args.at.now c.args.connection s c.make-in-Create2.new.self c.args.outputs.now _ c.args.request.now true c.in-Create2.asked command _ c.in-Create2.is (not_refused _ _ c.in_default.is c.refusal_of.ensures) a
+    (λ p n d q e h. c.alone-in-Create2.ensures.answers s _ _ c.args.outputs.now _ room c.make-in-Create2.ensures.room (c.make-in-Create2.ensures.performs naming s p n d q e m im nm h))
+
+pub returns-in-Create2-clause-kept : goal.returns-in-Create2-clause-kept
+returns-in-Create2-clause-kept g c = λ s x m im live on room.
+    c.alone-in-Create2.ensures.kept s c.make-in-Create2.new.self c.args.outputs.now _ room c.make-in-Create2.ensures.room (stays_means c.make-in-Create2.result s c.args.self.now.held _ m c.make-in-Create2.ensures.kept) c.make-in-Create2.ensures.quiet
 
 pub returns-in-Multi-clause-answers : goal.returns-in-Multi-clause-answers
 returns-in-Multi-clause-answers g c = λ naming s x command m im live on room nm a.
@@ -59,11 +73,11 @@ pub returns-in_default-request : goal.returns-in_default-request
 returns-in_default-request g c = record {
   answers = λ naming s x command m im live on room nm a.
       let plain = not_refused _ _ c.in_default.is c.refusal_of.ensures in
-      c.serve.ensures naming s x command m im live on room (other c.args.request.now c.in_default-request.not-Create c.in_default-request.not-Multi) plain (asked_plain c.args.request.now command plain a);
+      c.serve.ensures naming s x command m im live on room (other c.args.request.now c.in_default-request.not-Create c.in_default-request.not-Create2 c.in_default-request.not-Multi) plain (asked_plain c.args.request.now command plain a);
   kept = λ s x m im live on room.
       let plain = not_refused _ _ c.in_default.is c.refusal_of.ensures in
       let some = some_asked c.args.request.now plain in
       answers_leave_room s _ _ c.args.outputs.now _ _
-      (c.serve.ensures no_names s x some.0 m im live on room (other c.args.request.now c.in_default-request.not-Create c.in_default-request.not-Multi) plain some.1);
+      (c.serve.ensures no_names s x some.0 m im live on room (other c.args.request.now c.in_default-request.not-Create c.in_default-request.not-Create2 c.in_default-request.not-Multi) plain some.1);
   names = λ stem number text. (λ h. h, λ h. h);
 }
