@@ -1,5 +1,5 @@
 -- Causes of a stop.
-use Rattle.std.proofs.Common.{◌≡◌, ◌∙◌, ◌⊎◌, ◌++◌, inl, inr, ℕ, List, length, Option, None, Some, Result, Ok, Err, sym, ap, subst, arith}
+use Rattle.std.proofs.Common.{◌≡◌, ◌∙◌, ◌++◌, inl, inr, ℕ, List, length, Option, None, Some, Result, Ok, Err, sym, ap, subst, arith}
 use Rattle.std.proofs.Math.Seq.{take-length}
 use Rattle.jute_core.specs.Faults.{Takes, HasCause}
 use Rattle.std.specs.Prelude.{IfErr}
@@ -8,7 +8,7 @@ use Rattle.replay_cli.specs.declared.top_call.Stop.{Stop}
 use Rattle.replay_cli.specs.declared.top_call.Stop.TheVariants.{BadWords, Unread, TooLong, NotBuilt, Memory}
 use Rattle.replay_cli.specs.Script.{IsScript, lines}
 use Rattle.replay_cli.specs.Told.{Told}
-use Rattle.replay_cli.specs.Sinks.{TellsFault, fault_line}
+use Rattle.replay_cli.specs.Sinks.{ReportsFault, fault_line}
 use Rattle.replay_cli.specs.Words.{Words, word, IsReplay, IsHostile, IsShow, IsUnbuilt, ReadsFiles, Fits}
 use Rattle.replay_cli.specs.Run.{Prints, IsBuilt, IsBuiltScript, CannotBuild, IsLongOf, HasLong, StopsAtFile, IsNotBuilt}
 use Rattle.replay_cli.specs.Stops.{Because, IsUnreadOf, IsUnread}
@@ -85,13 +85,13 @@ stops_built words told (inr script) (inr (is, inr other)) = script.2 other.1.0 o
 pub ruleset stops = (stops_fit, stops_printing, stops_built)
 
 -- what a write of the line took of it
-pub tells_fault : {T E : Type 0} (r : Result T E) (faults later : ℕ) (taken after : Option (List ℕ)) → Takes taken after fault_line r → HasCause faults later r → TellsFault faults later taken after
-tells_fault (Ok x) faults later None after took cause = record { front = tt; whole = λ never. tt }
-tells_fault (Ok x) faults later (Some before) after took cause = record {
+pub reports_fault : {T E : Type 0} (r : Result T E) (faults later : ℕ) (taken after : Option (List ℕ)) → Takes taken after fault_line r → HasCause faults later r → ReportsFault faults later taken after
+reports_fault (Ok x) faults later None after took cause = record { front = tt; whole = λ never. tt }
+reports_fault (Ok x) faults later (Some before) after took cause = record {
   front = (length fault_line, took ∙ ap (λ (text : List ℕ). Some (before ++ text)) (sym (take-length fault_line)));
   whole = λ never. took;
 }
-tells_fault (Err e) faults later None after took cause = record { front = tt; whole = λ never. tt }
-tells_fault (Err e) faults later (Some before) after took cause = record { front = took; whole = λ never. absurd (never cause.failed) }
+reports_fault (Err e) faults later None after took cause = record { front = tt; whole = λ never. tt }
+reports_fault (Err e) faults later (Some before) after took cause = record { front = took; whole = λ never. absurd (never cause.failed) }
 
-pub ruleset tells = (tells_fault)
+pub ruleset reports = (reports_fault)

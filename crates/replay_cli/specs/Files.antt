@@ -68,7 +68,7 @@ ReadsIn name old new (Err Failed) = (IsTrue (is_listed old.fails old.calls) ⊎ 
 
 -- Readers of bytes
 
--- what a reader has left, where it tells
+-- what a reader has left, where it is known
 abbrev pub told_left : Option (List ℕ) → Told
 told_left None = untold
 told_left (Some bytes) = holds bytes

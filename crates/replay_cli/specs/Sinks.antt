@@ -18,23 +18,24 @@ abbrev pub Writes : {T E : Type 0} → List ℕ → SinkState → SinkState → 
 Writes piece old new (Ok _) = IsFalse (is_listed old.fails old.calls)
     × (new ≡ record old { taken = old.taken ++ piece; calls = next old.calls })
 Writes piece old new (Err _) = new ≡ record old {
-    calls = next old.calls;
-    faults = next old.faults;
-    short = (if is_listed old.fails old.calls then old.short else next old.short) }
+  calls = next old.calls;
+  faults = next old.faults;
+  short = (if is_listed old.fails old.calls then old.short else next old.short);
+}
 
 -- the line that is tried where a write failed
 abbrev pub fault_line : List ℕ
 fault_line = line (codes "cannot write") []
 
 -- A front of that line was taken: all of it, where the count of faults did not rise.
-pub record TellsFault (faults faults_after : ℕ) (taken taken_after : Option (List ℕ)) : Type 0 where
+pub record ReportsFault (faults faults_after : ℕ) (taken taken_after : Option (List ℕ)) : Type 0 where
   pub front : WroteFront taken taken_after fault_line
   pub whole : (Rose faults faults_after → ⊥) → Wrote taken taken_after fault_line
 
 -- The write of this text failed and took a front of it, and then a front of that line was taken.
-pub record FailsToTell (faults faults_after : ℕ) (taken taken_after : Option (List ℕ)) (text : List ℕ) : Type 0 where
+pub record FailsToReport (faults faults_after : ℕ) (taken taken_after : Option (List ℕ)) (text : List ℕ) : Type 0 where
   pub faults_between : ℕ
   pub taken_between : Option (List ℕ)
   pub rose : Rose faults faults_between
   pub front : WroteFront taken taken_between text
-  pub tells : TellsFault faults_between faults_after taken_between taken_after
+  pub reports : ReportsFault faults_between faults_after taken_between taken_after

@@ -64,7 +64,7 @@ IsLine words text = (text ≡ line (codes "bad words") [])
     ⊎ (text ≡ line (codes "no memory") [])
     ⊎ ((name : List ℕ) × IsFileOf words name × ((text ≡ unread_line name) ⊎ (text ≡ too_long_line name)))
 
--- what stands on the standard error after each status, where it tells; after a write fault `TellsFault` says it
+-- what stands on the standard error after each status, where it is known; after a write fault `ReportsFault` says it
 abbrev pub Complains : Words → Status → Option (List ℕ) → Option (List ℕ) → Type 0
 Complains words Done before after = after ≡ before
 Complains words BadWords before after = Wrote before after (line (codes "bad words") [])

@@ -202,7 +202,8 @@ enum Part {
 
 // Adds the next bytes of a reader.
 fn add_part<F: Read>(reader: &mut F, into: &mut Vec<u8>) -> Part
-    ensures { GivesPart result into.old.items into.new.items (F.remaining reader.old) (F.remaining reader.new) }
+    ensures { GivesPart result into.old.items into.new.items
+        (F.remaining reader.old) (F.remaining reader.new) }
 {
     let mut buffer = [0u8; 4096];
     match reader.read(&mut buffer) {
@@ -218,7 +219,7 @@ fn add_part<F: Read>(reader: &mut F, into: &mut Vec<u8>) -> Part
     }
 }
 
-// All that a reader has left, if it is within the limit. Where the reader tells what that is, these are its bytes.
+// All that a reader has left, if it is within the limit: exactly that, where it is known.
 fn read_all<F: Read>(alloc: Global, reader: &mut F, limit: u64) -> Result<Bytes, FileFault>
     ensures { ReadsFile (told_left (F.remaining reader.old)) limit result }
 {

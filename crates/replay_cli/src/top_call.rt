@@ -9,7 +9,7 @@ ghost use Rattle.replay_cli.specs.Words.{word, Fits, ReadsFiles, IsShow, IsUnbui
 ghost use Rattle.replay_cli.specs.declared.script.Event.{Event};
 ghost use Rattle.replay_cli.specs.Script.{IsScript};
 ghost use Rattle.replay_cli.specs.Run.{shown, MayHold, IsTooLong, IsBuilt, IsBuiltScript, CannotBuild, PrintsEvents, IsReplayText, IsShownText, Prints, IsLongOf, HasLong, StopsAtFile, IsNotBuilt};
-ghost use Rattle.replay_cli.specs.Sinks.{TellsFault, FailsToTell};
+ghost use Rattle.replay_cli.specs.Sinks.{ReportsFault, FailsToReport};
 ghost use Rattle.replay_cli.specs.Stops.{exit_status, Because, status_of, complaint_of, unread_line, too_long_line, IsUnreadOf, IsUnread, IsLine, Complains};
 
 use crate::files::{FileFault, Files};
@@ -264,11 +264,12 @@ fn status_of(stop: Stop<'_>) -> Status
 }
 
 // Tries to say that a write failed, whatever comes of it.
-#[tactic(auto, unfolding(crate::specs::Printed::line), using(crate::proofs::RunLemmas::tells))]
+#[tactic(auto, unfolding(crate::specs::Printed::line), using(crate::proofs::RunLemmas::reports))]
 fn write_fault<E: Sink>(err: &mut E) -> Status
     ensures status { result ≡ Status.WriteFault }
     ensures later { E.faults err.old ≤ E.faults err.new }
-    ensures tells { TellsFault (E.faults err.old) (E.faults err.new) (E.taken err.old) (E.taken err.new) }
+    ensures reports { ReportsFault (E.faults err.old) (E.faults err.new)
+        (E.taken err.old) (E.taken err.new) }
 {
     let _ = err.write(b"cannot write\n");
     Status::WriteFault
@@ -281,7 +282,7 @@ fn print<K: Sink, E: Sink>(out: &mut K, err: &mut E, text: &[u8]) -> Status
     ensures fault { result ≢ Status.Done → (result ≡ Status.WriteFault)
         × Rose (K.faults out.old) (K.faults out.new)
         × WroteFront (K.taken out.old) (K.taken out.new) text.now
-        × TellsFault (E.faults err.old) (E.faults err.new) (E.taken err.old) (E.taken err.new) }
+        × ReportsFault (E.faults err.old) (E.faults err.new) (E.taken err.old) (E.taken err.new) }
 {
     match out.write(text) {
         Ok(()) => Status::Done,
@@ -295,8 +296,9 @@ fn say<E: Sink>(status: Status, text: &[u8], err: &mut E) -> Status
         × Wrote (E.taken err.old) (E.taken err.new) text.now }
     ensures fault { result ≡ Status.WriteFault → (status ≡ Status.WriteFault)
         ⊎ Rose (E.faults err.old) (E.faults err.new) }
-    ensures tells { result ≡ Status.WriteFault → (status ≡ Status.WriteFault)
-        ⊎ FailsToTell (E.faults err.old) (E.faults err.new) (E.taken err.old) (E.taken err.new) text.now }
+    ensures reports { result ≡ Status.WriteFault → (status ≡ Status.WriteFault)
+        ⊎ FailsToReport (E.faults err.old) (E.faults err.new)
+        (E.taken err.old) (E.taken err.new) text.now }
 {
     match err.write(text) {
         Ok(()) => status,
@@ -304,13 +306,13 @@ fn say<E: Sink>(status: Status, text: &[u8], err: &mut E) -> Status
     }
 }
 
-/// Says that there was no memory, and answers that status, as where the words of a command line could not be had.
+/// Writes the line for want of memory, and returns its status. For a caller that has no words to run.
 #[tactic(auto, unfolding(crate::specs::Printed::line))]
 pub fn say_no_memory<E: Sink>(err: &mut E) -> Status
     ensures memory { result ≢ Status.WriteFault → (result ≡ Status.Memory)
         × Wrote (E.taken err.old) (E.taken err.new) (line (codes "no memory") []) }
     ensures fault { result ≡ Status.WriteFault → Rose (E.faults err.old) (E.faults err.new) }
-    ensures tells { result ≡ Status.WriteFault → FailsToTell (E.faults err.old)
+    ensures reports { result ≡ Status.WriteFault → FailsToReport (E.faults err.old)
         (E.faults err.new) (E.taken err.old) (E.taken err.new) (line (codes "no memory") []) }
 {
     say(Status::Memory, b"no memory\n", err)
@@ -325,9 +327,10 @@ fn complain<E: Sink>(alloc: Global, stop: Stop<'_>, err: &mut E) -> Status
     ensures memory { result ≡ Status.Memory
         → Wrote (E.taken err.old) (E.taken err.new) (line (codes "no memory") []) }
     ensures fault { result ≡ Status.WriteFault → Rose (E.faults err.old) (E.faults err.new) }
-    ensures tells { result ≡ Status.WriteFault → (text : List ℕ)
+    ensures reports { result ≡ Status.WriteFault → (text : List ℕ)
         × ((text ≡ complaint_of stop.entry) ⊎ (text ≡ line (codes "no memory") []))
-        × FailsToTell (E.faults err.old) (E.faults err.new) (E.taken err.old) (E.taken err.new) text }
+        × FailsToReport (E.faults err.old) (E.faults err.new)
+        (E.taken err.old) (E.taken err.new) text }
 {
     match complaint(alloc, stop) {
         Ok(text) => say(status_of(stop), text.as_bytes(), err),
@@ -381,11 +384,12 @@ pub fn run<F: Files, K: Sink, E: Sink>(
     ensures front { result ≡ Status.WriteFault → (K.taken out.new ≡ K.taken out.old)
         ⊎ ((text : List ℕ) × Prints words.now (F.told files.old) text
         × WroteFront (K.taken out.old) (K.taken out.new) text) }
-    // It is tried to say so: where the line of another status failed, behind a front of that line.
-    ensures tells { result ≡ Status.WriteFault
-        → TellsFault (E.faults err.old) (E.faults err.new) (E.taken err.old) (E.taken err.new)
+    // `err` took a front of the line for that, behind a front of another line where that one's write failed.
+    ensures reports { result ≡ Status.WriteFault
+        → ReportsFault (E.faults err.old) (E.faults err.new) (E.taken err.old) (E.taken err.new)
         ⊎ ((text : List ℕ) × IsLine words.now text
-        × FailsToTell (E.faults err.old) (E.faults err.new) (E.taken err.old) (E.taken err.new) text) }
+        × FailsToReport (E.faults err.old) (E.faults err.new)
+        (E.taken err.old) (E.taken err.new) text) }
     // Each other status leaves `out` as it was, and has its line on `err`.
     ensures quiet { result ≢ Status.Done → result ≢ Status.WriteFault
         → K.taken out.new ≡ K.taken out.old }
