@@ -73,7 +73,8 @@ same_named text false true p q same x y = absurd (false≢true (same.1 refl))
 same_named text false false p q same x y = (refl, same_path text p q x y)
 
 same_name : (flags : ℤ) (text : List ℕ) (s t : Bool) (p q : List (List ℕ)) → IsNameOf flags text s p → IsNameOf flags text t q → (s ≡ t) × (p ≡ q)
-same_name flags text s t p q x y = same_named text s t p q (λ h. y.flagged.1 (x.flagged.0 h), λ h. x.flagged.1 (y.flagged.0 h)) x.named y.named
+unfolding IsNameOf
+same_name flags text s t p q x y = same_named text s t p q (λ h. y.0.1 (x.0.0 h), λ h. x.0.1 (y.0.0 h)) x.1 y.1
 
 one_op : (r : Op) (a b : AskedOp) → AsksOp r a → AsksOp r b → a ≡ b
 unfolding AsksOp

@@ -1,13 +1,8 @@
--- Where what comes to each connection has bytes, each answer fits a frame; and a store that follows names no negative length.
+-- Where what comes to each connection has bytes, each answer fits a frame.
 use Rattle.std.proofs.Common.{◌≡◌, ◌⊎◌, ℕ, ℤ, pos, Bool, true, false, cond, List, [], ◌∷◌, ◌++◌, length, inl, inr, refl, sym, ap, subst, ◌∙◌, arith, append_assoc, length-append, FitsSigned, w32}
 use Rattle.std.specs.Prelude.{All, ◌==◌, ◌<◌, ◌^◌, ◌<ℤ◌}
 use Rattle.std.proofs.lemmas.Bool.{eq-eqb}
-use Rattle.std.proofs.lemmas.Int.{ints}
 use Rattle.std.proofs.lemmas.List.Elements.{All-nil, All-cons, All-head, All-tail}
-use Rattle.jute_core.specs.Frames.{frame}
-use Rattle.jute_core.specs.Jute.{int_bytes}
-use Rattle.jute_core.proofs.OneSpelling.{ints_apart}
-use Rattle.zk_frame.specs.Framing.{IsTooLong}
 use Rattle.tree_state.specs.declared.message.Message.{Message}
 use Rattle.tree_state.specs.declared.message.Message.TheVariants as messages
 use Rattle.tree_state.specs.declared.message.Output.{Output}
@@ -40,24 +35,3 @@ all_fit (o ∷ os) h = All-cons FitsOutput o os (first_fits o os (h o.connection
 
 pub answers_fit : (os : List Output) (bytes : ℕ → List ℕ) → ((c : ℕ) → Messages (to_connection c os) (bytes c)) → All FitsOutput os
 answers_fit os bytes h = all_fit os (λ c. messages_fit (to_connection c os) (bytes c) (h c))
-
--- ---- lengths
-
-int_size : (z : ℤ) (b : List ℕ) → b ≡ int_bytes z → length b ≡ 4
-int_size z b e = ap length e
-
-below_zero : (z : ℤ) (n : ℕ) → z ≡ pos n → z <ℤ pos 0 → ⊥
-below_zero z n e l = omega (arith, ints, e, l)
-
-length_fits : (n : ℕ) → n < 2 ^ 31 → FitsSigned w32 (pos n)
-length_fits n l = omega (arith, ints, l)
-
--- the length that the next frame of a store names is not negative
-pub names_beyond : (limit : ℕ) (left : List Message) (rest waiting : List ℕ) (z : ℤ) → IsTooLong limit rest z → Messages left (rest ++ waiting) → pos limit <ℤ z
-unfolding Messages frame
-names_beyond limit [] rest waiting z h m = absurd (omega (arith, ap length m, ap length h.begins, length-append rest waiting, length-append h.prefix h.more, int_size z h.prefix h.named.1))
-names_beyond limit (x ∷ ms) rest waiting z h (body, more, spelled, fits, cut, others) =
-    let same : int_bytes z ++ (h.more ++ waiting) ≡ int_bytes (pos (length body)) ++ (body ++ more) =
-        ap (λ (p : List ℕ). p ++ (h.more ++ waiting)) (sym h.named.1) ∙ sym (append_assoc h.prefix h.more waiting) ∙ ap (λ (p : List ℕ). p ++ waiting) (sym h.begins) ∙ cut ∙ append_assoc (int_bytes (pos (length body))) body more in
-    let is : z ≡ pos (length body) = (ints_apart z (pos (length body)) (h.more ++ waiting) (body ++ more) h.named.0 (length_fits (length body) fits) same).0 in
-    elim h.beyond [ inl l ↦ absurd (below_zero z (length body) is l) | inr l ↦ l ]

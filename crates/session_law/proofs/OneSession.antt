@@ -115,7 +115,7 @@ module _ (k : EntryKeys) (boot c : ℕ) (w : AreKeys k.names) (r : ConnectRespon
       let g = goes k boot c old h s t in
       let n = grown_on old s final more (turn_grown k boot c old h s g.turn) fin in
       turn_reached hs old h s n.0 n.1 sp behind long g.going g.turn
-          (one_session talks hs old n.0 ran (front_before h hs sp) (behind_before h hs behind) (λ z e. absurd (no_bad k boot c hs old z ran g.going e)) n.1)
+      (one_session talks hs old n.0 ran (front_before h hs sp) (behind_before h hs behind) (λ z e. absurd (no_bad k boot c hs old z ran g.going e)) n.1)
 
 -- the same from the bytes of the store's side
 pub reached : (k : EntryKeys) (boot c : ℕ) → AreKeys k.names → (r : ConnectResponse) (qs : List Question) (ms ns told : List Message) (hs : List Heard) (s : Stand) (pulled waiting : List ℕ) → told ≡ messages.Connected r ∷ ns → Talks k qs ms ns → HasNoConnected ns
@@ -123,10 +123,10 @@ pub reached : (k : EntryKeys) (boot c : ℕ) → AreKeys k.names → (r : Connec
 reached k boot c w r qs ms ns told hs s pulled waiting is talks quiet ran begun spelled side behind =
     let whole = whole_frames k boot c hs s ran in
     one_session k boot c w r qs ms ns quiet s.items begun talks hs s [] ran
-        (subst (λ (l : List Message). SpellsFront l (store_frames hs)) is (front_spelled told (store_frames hs) (bad_of_store hs) s.ending pulled waiting whole spelled side))
-        (subst (λ (l : List Message). AreBehind l hs) is behind)
-        (honest_length told (store_frames hs) (bad_of_store hs) s.ending pulled waiting whole spelled side)
-        (sym (append-nil s.items))
+    (subst (λ (l : List Message). SpellsFront l (store_frames hs)) is (front_spelled told (store_frames hs) (bad_of_store hs) s.ending pulled waiting whole spelled side))
+    (subst (λ (l : List Message). AreBehind l hs) is behind)
+    (honest_length told (store_frames hs) (bad_of_store hs) s.ending pulled waiting whole spelled side)
+    (sym (append-nil s.items))
 
 -- ---- all of them
 

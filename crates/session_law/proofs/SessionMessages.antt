@@ -107,24 +107,45 @@ stands_at (j ∷ is) (suc n) i e = let s = stands_at is n i e in record { before
 refused_or_close : (code : ℤ) → asks.Close ≡ asks.Refused code → ⊥
 refused_or_close code e = cc
 
-asks_close : (r : Request) → AsksPlain r asks.Close → r ≡ requests.Close
+plain_close : (r : Request) → AsksPlain r asks.Close → r ≡ requests.Close
 unfolding AsksPlain
-asks_close requests.Close h = refl
-asks_close r h = absurd h
+plain_close requests.Close h = refl
+plain_close r h = absurd h
 
 -- what asks a close is a closeSession
 pub is_close : (r : Request) → Asks r asks.Close → r ≡ requests.Close
 unfolding Asks
 is_close r (inl (code, h, e)) = absurd (refused_or_close code e)
-is_close r (inr (ok, h)) = asks_close r h
+is_close r (inr (ok, h)) = plain_close r h
 
 -- ---- what comes next
 
--- what came next, and what it is beside
+-- an event came, which opens to the plain one
+pub record EventCame (k : EntryKeys) (open_ : List Question) (plain : List Message) (n : Message) (rest : List Message) (e f : Event) (more : List Message) : Type 0 where
+  pub told_is : n ≡ messages.Event f
+  pub plain_is : plain ≡ messages.Event e ∷ more
+  pub opens : IsPlainEvent k.names f e
+  pub talks : Talks k open_ more rest
+
+-- a reply came, which is admitted to the plain one for the question that is open the longest
+pub record ReplyCame (k : EntryKeys) (open_ : List Question) (plain : List Message) (n : Message) (rest : List Message) (q : Question) (a f : Reply) (others : List Question) (more : List Message) : Type 0 where
+  pub told_is : n ≡ messages.Reply f
+  pub plain_is : plain ≡ messages.Reply a ∷ more
+  pub open_is : open_ ≡ q ∷ others
+  pub same_xid : a.xid ≡ q.xid
+  pub admits : Admits k q.asked f a None
+  pub talks : Talks k others more rest
+
+-- the answer to a connect request came
+pub record SessionCame (k : EntryKeys) (open_ : List Question) (plain : List Message) (n : Message) (rest : List Message) (a : ConnectResponse) (more : List Message) : Type 0 where
+  pub told_is : n ≡ messages.Connected a
+  pub plain_is : plain ≡ messages.Connected a ∷ more
+  pub talks : Talks k open_ more rest
+
 pub data Came (k : EntryKeys) (open_ : List Question) (plain : List Message) (n : Message) (rest : List Message) : Type 0 where
-  came_event : (e f : Event) (more : List Message) → n ≡ messages.Event f → plain ≡ messages.Event e ∷ more → IsPlainEvent k.names f e → Talks k open_ more rest → Came k open_ plain n rest
-  came_reply : (q : Question) (a f : Reply) (others : List Question) (more : List Message) → n ≡ messages.Reply f → plain ≡ messages.Reply a ∷ more → open_ ≡ q ∷ others → a.xid ≡ q.xid → Admits k q.asked f a None → Talks k others more rest → Came k open_ plain n rest
-  came_session : (a : ConnectResponse) (more : List Message) → n ≡ messages.Connected a → plain ≡ messages.Connected a ∷ more → Talks k open_ more rest → Came k open_ plain n rest
+  came_event : (e f : Event) (more : List Message) → EventCame k open_ plain n rest e f more → Came k open_ plain n rest
+  came_reply : (q : Question) (a f : Reply) (others : List Question) (more : List Message) → ReplyCame k open_ plain n rest q a f others more → Came k open_ plain n rest
+  came_session : (a : ConnectResponse) (more : List Message) → SessionCame k open_ plain n rest a more → Came k open_ plain n rest
 
 pub first_is : (m n : Message) (ms ns : List Message) → m ∷ ms ≡ n ∷ ns → n ≡ m
 first_is m n ms ns e = cc
@@ -132,14 +153,18 @@ first_is m n ms ns e = cc
 pub rest_is : (m n : Message) (ms ns : List Message) → m ∷ ms ≡ n ∷ ns → ms ≡ ns
 rest_is m n ms ns e = cc
 
+talks_on : (k : EntryKeys) (qs : List Question) (ms : List Message) (m n : Message) (ns rest : List Message) → m ∷ ns ≡ n ∷ rest → Talks k qs ms ns → Talks k qs ms rest
+talks_on k qs ms m n ns rest e h = subst (λ (l : List Message). Talks k qs ms l) (rest_is m n ns rest e) h
+
+-- what comes next is one of these
 pub came : (k : EntryKeys) (open_ : List Question) (plain left : List Message) (n : Message) (rest : List Message) → Talks k open_ plain left → left ≡ n ∷ rest → Came k open_ plain n rest
 came k open_ plain left n rest silent e = absurd cc
-came k open_ plain left n rest (told_event a b q ms ns i h) e =
-    came_event a b ms (first_is (messages.Event b) n ns rest e) refl i (subst (λ (l : List Message). Talks k q ms l) (rest_is (messages.Event b) n ns rest e) h)
+came k open_ plain left n rest (told_event a b qs ms ns i h) e =
+    came_event a b ms (record { told_is = first_is (messages.Event b) n ns rest e; plain_is = refl; opens = i; talks = talks_on k qs ms (messages.Event b) n ns rest e h })
 came k open_ plain left n rest (told_reply q a b qs ms ns x i h) e =
-    came_reply q a b qs ms (first_is (messages.Reply b) n ns rest e) refl refl x i (subst (λ (l : List Message). Talks k qs ms l) (rest_is (messages.Reply b) n ns rest e) h)
-came k open_ plain left n rest (told_session a q ms ns h) e =
-    came_session a ms (first_is (messages.Connected a) n ns rest e) refl (subst (λ (l : List Message). Talks k q ms l) (rest_is (messages.Connected a) n ns rest e) h)
+    came_reply q a b qs ms (record { told_is = first_is (messages.Reply b) n ns rest e; plain_is = refl; open_is = refl; same_xid = x; admits = i; talks = talks_on k qs ms (messages.Reply b) n ns rest e h })
+came k open_ plain left n rest (told_session a qs ms ns h) e =
+    came_session a ms (record { told_is = first_is (messages.Connected a) n ns rest e; plain_is = refl; talks = talks_on k qs ms (messages.Connected a) n ns rest e h })
 
 -- a list of which one more is done
 pub moved : {A : Type 0} (all done left : List A) (x : A) (rest : List A) → all ≡ done ++ left → left ≡ x ∷ rest → all ≡ (done ++ x ∷ []) ++ rest

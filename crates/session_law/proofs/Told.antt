@@ -27,8 +27,8 @@ use Rattle.entry_session.proofs.Turns.{goes, some_none}
 use Rattle.session_law.specs.Law.{AreBehind, IsHonestEnd}
 use Rattle.session_law.proofs.Words.{SpellsFront, IsBegun, IsOrderly, unheard, heard}
 use Rattle.session_law.proofs.SessionStands.{Reached}
-use Rattle.session_law.proofs.SessionSides.{whole_frames, front_spelled, honest_length}
-use Rattle.session_law.proofs.OneSession.{no_bad, reached, none_left}
+use Rattle.session_law.proofs.SessionUnheard.{Unheard, unheard as unheard_session}
+use Rattle.session_law.proofs.OneSession.{reached, none_left}
 
 -- ---- what was told
 
@@ -55,79 +55,6 @@ pub record IsTold (k : EntryKeys) (qs : List Question) (plain_messages told : Li
 
 -- ---- a session to which nothing came
 
-record Unheard (s : Stand) : Type 0 where
-  down : s.down ≡ []
-  none : s.findings ≡ []
-  honest : IsHonestEnd s.ending
-  unclosed : s.ending ≡ Some endings.Closed → ⊥
-
-unheard_at : (s t : Stand) → t ≡ s → Unheard s → Unheard t
-unheard_at s t e h = subst Unheard (sym e) h
-
-closed_apart : (e : Ending) → (e ≡ endings.Closed → ⊥) → Some e ≡ Some endings.Closed → ⊥
-closed_apart e f g = f (some_same e endings.Closed g)
-  where
-    some_same : (a b : Ending) → Some a ≡ Some b → a ≡ b
-    some_same a b e = cc
-
-unheard_end : (s : Stand) (e : Ending) → IsHonestEnd (Some e) → (e ≡ endings.Closed → ⊥) → Unheard s → Unheard (ends s e)
-unheard_end s e honest f h = record { down = h.down; none = h.none; honest = honest; unclosed = closed_apart e f }
-
-too_long_apart : (z : ℤ) → endings.ClientTooLong z ≡ endings.Closed → ⊥
-too_long_apart z e = absurd cc
-
-unheard_client : (k : EntryKeys) (boot c : ℕ) (old : Stand) (body : List ℕ) (new : Stand) → ClientTurn k boot c old body new → Unheard old → Unheard new
-unfolding IsHonestEnd
-unheard_client k boot c old body new (malformed_frame refusal f) h = unheard_end old (endings.ClientMalformed refusal) tt (λ e. absurd cc) h
-unheard_client k boot c old body new (full_queue i f g) h = unheard_end old (endings.QueueFull _) tt (λ e. absurd cc) h
-unheard_client k boot c old body new (spent_ivs i n f g p l) h = unheard_end old endings.IvSpent tt (λ e. absurd cc) h
-unheard_client k boot c old body new (handed_up i v n out f g p l q o) h = record { down = h.down; none = h.none; honest = h.honest; unclosed = h.unclosed }
-
-not_last : {A : Type 0} (xs : List A) (x : A) → xs ++ x ∷ [] ≡ [] → ⊥
-not_last [] x e = absurd cc
-not_last (y ∷ xs) x e = absurd cc
-
-given_honest : (e : Ending) → IsGivenEnding e → IsHonestEnd (Some e) × (e ≡ endings.Closed → ⊥)
-unfolding IsHonestEnd IsGivenEnding
-given_honest endings.ClientEnd h = (tt, (λ e. absurd cc))
-given_honest endings.StoreEnd h = (tt, (λ e. absurd cc))
-given_honest endings.ClientFault h = (tt, (λ e. absurd cc))
-given_honest endings.StoreFault h = (tt, (λ e. absurd cc))
-given_honest endings.Turns h = (tt, (λ e. absurd cc))
-given_honest e h = absurd h
-
-unheard_turn : (k : EntryKeys) (boot c : ℕ) (old : Stand) (h : Heard) (hs : List Heard) (new : Stand) → store_frames (h ∷ hs) ≡ [] → ((z : ℤ) → bad_of_store (h ∷ hs) ≡ Some z → pos store_limit <ℤ z) → TurnOf k boot c old h new → Unheard old → Unheard new
-unfolding TurnOf store_frames bad_of_store IsHonestEnd
-unheard_turn k boot c old (from_client body) hs new none honest t x = unheard_client k boot c old body new t.1 x
-unheard_turn k boot c old (from_store body) hs new none honest t x = absurd (not_last (store_frames hs) body none)
-unheard_turn k boot c old (bad_client z) hs new none honest t x = unheard_at _ new t.1 (unheard_end old (endings.ClientTooLong z) tt (too_long_apart z) x)
-unheard_turn k boot c old (bad_store z) hs new none honest t x = unheard_at _ new t.1 (unheard_end old (endings.StoreTooLong z) (honest z refl) (λ e. absurd cc) x)
-unheard_turn k boot c old (given e) hs new none honest t x = let g = given_honest e t.0 in unheard_at _ new t.1 (unheard_end old e g.0 g.1 x)
-
-frames_before : (h : Heard) (hs : List Heard) → store_frames (h ∷ hs) ≡ [] → store_frames hs ≡ []
-unfolding store_frames
-frames_before (from_client body) hs e = e
-frames_before (from_store body) hs e = absurd (not_last (store_frames hs) body e)
-frames_before (bad_client z) hs e = e
-frames_before (bad_store z) hs e = e
-frames_before (given n) hs e = e
-
-unheard_fresh : Unheard fresh
-unfolding IsHonestEnd
-unheard_fresh = record { down = refl; none = refl; honest = tt; unclosed = λ e. absurd cc }
-
-unheard_session : (k : EntryKeys) (boot c : ℕ) (hs : List Heard) (s : Stand) → store_frames hs ≡ [] → ((z : ℤ) → bad_of_store hs ≡ Some z → pos store_limit <ℤ z) → Ran k boot c hs s → Unheard s
-unfolding Ran
-unheard_session k boot c [] s none honest e = unheard_at fresh s e unheard_fresh
-unheard_session k boot c (h ∷ hs) s none honest (old, ran, t) =
-    let g = goes k boot c old h s t in
-    unheard_turn k boot c old h hs s none honest g.turn (unheard_session k boot c hs old (frames_before h hs none) (λ z e. absurd (no_bad k boot c hs old z ran g.going e)) ran)
-
-nothing_spelled : (bs : List (List ℕ)) → SpellsFront [] bs → bs ≡ []
-unfolding SpellsFront
-nothing_spelled [] h = refl
-nothing_spelled (b ∷ bs) h = absurd h
-
 told_nothing : (k : EntryKeys) (qs : List Question) (ms told : List Message) → Talks k qs ms told → ms ≡ [] → told ≡ []
 told_nothing k qs ms told silent e = refl
 told_nothing k qs ms told (told_event a b q ms' ns' i t) e = absurd cc
@@ -144,7 +71,7 @@ unheard_told k qs ms told hs s e h = record {
   none = h.none;
   honest = h.honest;
   all = λ f. refl;
-  closed = λ f. absurd (h.unclosed f);
+  closed = λ f. absurd (h.not_closed f);
 }
 
 -- ---- a session that was answered
@@ -213,10 +140,7 @@ reached_told k r qs ms ns all told hs s e f x = record {
 pub orderly_told : (k : EntryKeys) (boot c : ℕ) → AreKeys k.names → (acts : List Act) (told : List Message) (hs : List Heard) (s : Stand) (pulled waiting : List ℕ) → Talks k (all_asked c start acts) (out plain acts c) told → Ran k boot c hs s → Messages told (pulled ++ waiting)
     → IsSide store_limit (store_frames hs) (bad_of_store hs) s.ending pulled → AreBehind told hs → IsOrderly c acts s.items → IsTold k (all_asked c start acts) (out plain acts c) told hs s
 orderly_told k boot c w acts told hs s pulled waiting t ran spelled side behind (unheard e) =
-    let whole = whole_frames k boot c hs s ran in
-    let none : told ≡ [] = told_nothing k _ _ told t e in
-    let fronts = front_spelled told (store_frames hs) (bad_of_store hs) s.ending pulled waiting whole spelled side in
-    unheard_told k (all_asked c start acts) (out plain acts c) told hs s e (unheard_session k boot c hs s (nothing_spelled (store_frames hs) (subst (λ (l : List Message). SpellsFront l (store_frames hs)) none fronts)) (honest_length told (store_frames hs) (bad_of_store hs) s.ending pulled waiting whole spelled side) ran)
+    unheard_told k (all_asked c start acts) (out plain acts c) told hs s e (unheard_session k boot c told hs s pulled waiting (told_nothing k _ _ told t e) ran spelled side)
 orderly_told k boot c w acts told hs s pulled waiting t ran spelled side behind (heard r ms e quiet begun) =
     let b = begins_with k r _ _ ms told t e quiet in
     reached_told k r (all_asked c start acts) ms b.rest (out plain acts c) told hs s e b.told_is
