@@ -20,7 +20,6 @@ some_shape : (o : Outcome) → (shape : Shape) × HasShape shape o
 some_shape (outcomes.Error code) = (shapes.Empty, tt)
 some_shape outcomes.Empty = (shapes.Empty, tt)
 some_shape (outcomes.Path p) = (shapes.Path, tt)
-some_shape (outcomes.Created2 p q) = (shapes.Created2, tt)
 some_shape (outcomes.Stat p) = (shapes.Stat, tt)
 some_shape (outcomes.Content d p) = (shapes.Content, tt)
 some_shape (outcomes.Acls d p) = (shapes.Acls, tt)
