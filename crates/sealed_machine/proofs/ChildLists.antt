@@ -14,7 +14,6 @@ use Rattle.std.proofs.lemmas.Map.Text.{is_eq-slice_cmp}
 use Rattle.std.proofs.lemmas.Slice.Eq.{bytes_eq-Decides}
 use Rattle.path_seal.specs.Sealed.{Keys, AreKeys, OpensName}
 use Rattle.reply_rewrite.specs.Children.{byte_order, IsOneOf, name_at, ArePlainNames}
-use Rattle.reply_rewrite.proofs.Opening.{one_name}
 use Rattle.reply_rewrite.proofs.Sets.{inserted_ascends}
 use Rattle.tree_state.proofs.SamePaths.{same_path-true}
 use Rattle.tree_state.specs.Nodes.{Path, Place, same_path, text_le, placed, in_order, is_there, name_under, name_of_child, children, child_names}
@@ -25,7 +24,8 @@ use Rattle.tree_state.proofs.Reorder.{length-Shuffles, Shuffles-sym}
 use Rattle.tree_state.proofs.NameSets.{has_name}
 use Rattle.tree_state.proofs.ChildNames.{has_child_name}
 use Rattle.tree_server.proofs.Zipping.{Zips, length_zips}
-use Rattle.sealed_machine.proofs.SimWords.{SealsName}
+use Rattle.sealed_machine.proofs.SealedNames.{one_name}
+use Rattle.sealed_machine.proofs.SealedStates.{SealsName}
 
 -- ---- related lists in another order
 
@@ -153,6 +153,9 @@ at_zips k p (x ∷ xs) [] h i lt = absurd h
 at_zips k p (x ∷ xs) (y ∷ ys) h zero lt = h.0
 at_zips k p (x ∷ xs) (y ∷ ys) h (suc i) lt = at_zips k p xs ys h.1 i (omega (arith, lt))
 
+same_name : (k : Keys) → AreKeys k → (p : Path) (m a b : List ℕ) → OpensName k p m a → OpensName k p m b → a ≡ b
+same_name k w p m a b h j = one_name k w p a b h.0 j.0 (h.1 ∙ sym j.1)
+
 opens_name : (k : Keys) (p : Path) (n m : List ℕ) → SealsName k p n m → OpensName k p m n
 opens_name k p n m h = (h.legal, sym h.is)
 
@@ -201,7 +204,7 @@ opened_names k w p ms xs plain h up =
       good = record {
         opens = λ i lt. (name_at xs i, opens_name k p _ _ (at_zips k p xs ms h.sealed i lt));
         apart = λ i lt e. no_earlier xs h.single i e.0 e.1 (omega (arith, lt, size))
-            (one_name k p (name_at ms i) (name_at xs e.0) (name_at xs i) w
+            (same_name k w p (name_at ms i) (name_at xs e.0) (name_at xs i)
             (subst (λ (m : List ℕ). OpensName k p m (name_at xs e.0)) e.2 (opens_name k p _ _ (at_zips k p xs ms h.sealed e.0 (omega (arith, lt, e.1)))))
             (opens_name k p _ _ (at_zips k p xs ms h.sealed i lt)));
       };
@@ -210,7 +213,7 @@ opened_names k w p ms xs plain h up =
           (λ o. let r = one_of_at n xs (one_of-Shuffles n plain xs (Shuffles-sym xs plain h.order) o) in
               let lt : r.0 < length ms = omega (arith, r.1, size) in
               (r.0, lt, subst (λ (x : List ℕ). OpensName k p (name_at ms r.0) x) r.2 (opens_name k p _ _ (at_zips k p xs ms h.sealed r.0 lt)))),
-          (λ r. let same : n ≡ name_at xs r.0 = one_name k p (name_at ms r.0) n (name_at xs r.0) w r.2 (opens_name k p _ _ (at_zips k p xs ms h.sealed r.0 r.1)) in
+          (λ r. let same : n ≡ name_at xs r.0 = same_name k w p (name_at ms r.0) n (name_at xs r.0) r.2 (opens_name k p _ _ (at_zips k p xs ms h.sealed r.0 r.1)) in
               one_of-Shuffles n xs plain h.order (subst (λ (x : List ℕ). IsOneOf x xs) (sym same) (at_one_of xs r.0 (omega (arith, r.1, size))))),
         );
         counted = sym (length-Shuffles xs plain h.order) ∙ size;

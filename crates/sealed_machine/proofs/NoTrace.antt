@@ -13,7 +13,7 @@ use Rattle.tree_state.specs.Commands.{Change, create, delete, set_content, check
 use Rattle.tree_state.specs.Changes.{Trial, failed, done, need, refuse, Naming, Effect, Effects, event_to, events_to, creation_events, left_by_creation, end_events, deletion_events, left_by_deletion, content_events, created, deleted, updated, perform, no_effects, after_effect, or_failed, perform_all, all_deleted}
 use Rattle.tree_state.specs.Step.{Answer, with_error, told_only, or_error, answer_single, answer_multi, with_watch, Notice, tells, watches, Noticed, noticed, all_noticed, with_noticed, closed, answer, Act, connects, asks as asking, loses, expires, Next, hears, replied, taken, with_session, with_moved, connected_at, connected, answer_connect, watches_gone, ended, lost, expired, step}
 use Rattle.tree_server.specs.Out.{to_connection}
-use Rattle.sealed_machine.proofs.Talking.{to_connection-append}
+use Rattle.sealed_machine.proofs.Connections.{to_connection-append}
 
 -- ---- lists
 
@@ -119,9 +119,9 @@ done_quiet : (c : ℕ) (s : State) (e : Effect) → Quiet c s e.state e.events �
 unfolding QuietIf
 done_quiet c s e h = h
 
-created_quiet : (c : ℕ) (at : Moment) (p : Path) (n : List ℕ) (node : Node) (s : State) → list_any (is_of c) s.watches ≡ false → Quiet c s (created at p n node s).state (created at p n node s).events
+created_quiet : (c : ℕ) (at : Moment) (p : Path) (n : List ℕ) (node : Node) (stat : Bool) (s : State) → list_any (is_of c) s.watches ≡ false → Quiet c s (created at p n node stat s).state (created at p n node stat s).events
 unfolding created left_by_creation creation_events
-created_quiet c at p n node s h = record {
+created_quiet c at p n node stat s h = record {
   watches_are = left_none c on_children p _ (left_none c on_data (n ∷ p) s.watches h);
   sessions_are = refl;
   events_are = two_none c _ _ (events_none c (pos 1) (n ∷ p) _ (told_none c on_data (n ∷ p) s.watches h)) (events_none c (pos 4) p _ (told_none c on_children p s.watches h));
@@ -146,8 +146,8 @@ same_quiet c s t e f h = record { watches_are = ap (list_any (is_of c)) e ∙ h;
 
 perform_quiet : (c : ℕ) (naming : Naming) (at : Moment) (s : State) (change : Change) → list_any (is_of c) s.watches ≡ false → QuietIf c s (perform naming at s change)
 unfolding perform
-perform_quiet c naming at s (create p n d q e) h =
-    need_quiet c s (find s.nodes p) _ _ λ up. refuse_quiet c s _ _ _ (refuse_quiet c s _ _ _ (need_quiet c s _ _ _ λ name. refuse_quiet c s _ _ _ (done_quiet c s _ (created_quiet c at p name _ s h))))
+perform_quiet c naming at s (create p n d q e stat) h =
+    need_quiet c s (find s.nodes p) _ _ λ up. refuse_quiet c s _ _ _ (refuse_quiet c s _ _ _ (need_quiet c s _ _ _ λ name. refuse_quiet c s _ _ _ (done_quiet c s _ (created_quiet c at p name _ stat s h))))
 perform_quiet c naming at s (delete p v) h = need_quiet c s (find s.nodes p) _ _ λ node. refuse_quiet c s _ _ _ (refuse_quiet c s _ _ _ (done_quiet c s _ (deleted_quiet c at.zxid p s h)))
 perform_quiet c naming at s (set_content p d v) h = need_quiet c s (find s.nodes p) _ _ λ node. refuse_quiet c s _ _ _ (refuse_quiet c s _ _ _ (done_quiet c s _ (updated_quiet c at p d node s h)))
 perform_quiet c naming at s (check p v) h = need_quiet c s (find s.nodes p) _ _ λ node. refuse_quiet c s _ _ _ (done_quiet c s _ (same_quiet c s _ refl refl h))

@@ -6,7 +6,9 @@ use Rattle.request_queue.specs.declared.asked.Asked.{Asked}
 use Rattle.zk_messages.specs.declared.reply.Outcome.{Outcome}
 use Rattle.zk_messages.specs.declared.reply.Outcome.TheVariants as outcomes
 use Rattle.zk_messages.specs.declared.reply.Reply.{Reply}
+use Rattle.zk_messages.specs.Replies.{HasShape}
 use Rattle.reply_rewrite.specs.Admits.{Admits, AdmitsOutcome}
+use Rattle.reply_rewrite.specs.Shapes.{shape_for}
 use Rattle.reply_rewrite.specs.Results.{IsPlainResult, ArePlainResults}
 use Rattle.watch_rewrite.specs.Events.{IsPlainEvent}
 use Rattle.tree_state.specs.declared.message.Message.{Message}
@@ -17,12 +19,17 @@ use Rattle.tree_state.specs.Changes.{Effect, Effects}
 use Rattle.tree_state.specs.Step.{Answer, Next, Noticed}
 use Rattle.tree_server.specs.Zips.{Zips}
 use Rattle.tree_server.specs.Follows.{Shows, ShowsReply}
-use Rattle.sealed_machine.specs.Seals.{SealedWatch, Sim}
+use Rattle.sealed_machine.specs.Seals.{SealedWatch, IsSealedState}
 use Rattle.sealed_machine.specs.Veils.{op_asked, asked_of}
 
--- whatever a store tells of this answer, a client is told the plain one
+-- what a store tells has the shape of an answer to what is asked, and a client is told the plain outcome
+pub record IsOpenedTo (k : EntryKeys) (asked : Asked) (told plain : Outcome) : Type 0 where
+  pub shaped : HasShape (shape_for asked) told
+  pub admitted : AdmitsOutcome k asked told plain None
+
+-- so it is with whatever a store tells of this answer
 abbrev pub Opens : EntryKeys → Asked → Outcome → Outcome → Type 0
-Opens k asked plain stored = (told : Outcome) → Shows stored told → AdmitsOutcome k asked told plain None
+Opens k asked plain stored = (told : Outcome) → Shows stored told → IsOpenedTo k asked told plain
 
 -- the event, and the store's, which opens to it
 unfoldable pub OpensEvent : Keys → Message → Message → Type 0
@@ -34,12 +41,12 @@ pub record OpensOutput (k : Keys) (o u : Output) : Type 0 where
   pub event : OpensEvent k o.message u.message
 
 pub record SealedEffect (k : EntryKeys) (c : Change) (e f : Effect) : Type 0 where
-  pub state : Sim k e.state f.state
+  pub state : IsSealedState k e.state f.state
   pub result : IsPlainResult k.names false (op_asked c) f.result e.result
   pub events : Zips (OpensOutput k.names) e.events f.events
 
 pub record SealedEffects (k : EntryKeys) (cs : List Change) (e f : Effects) : Type 0 where
-  pub state : Sim k e.state f.state
+  pub state : IsSealedState k e.state f.state
   pub results : ArePlainResults k.names false (map op_asked cs) f.results e.results
   pub events : Zips (OpensOutput k.names) e.events f.events
 
@@ -48,7 +55,7 @@ pub record SealedNoticed (k : Keys) (x y : Noticed) : Type 0 where
   pub events : Zips (OpensOutput k) x.events y.events
 
 pub record SealedAnswer (k : EntryKeys) (c : Command) (a b : Answer) : Type 0 where
-  pub state : Sim k a.state b.state
+  pub state : IsSealedState k a.state b.state
   pub outcome : Opens k (asked_of c) a.outcome b.outcome
   pub events : Zips (OpensOutput k.names) a.events b.events
 
@@ -64,5 +71,5 @@ pub record Answers (k : EntryKeys) (asked : Asked) (o u : Output) : Type 0 where
   pub message : OpensMessage k asked o.message u.message
 
 pub record SealedNext (k : EntryKeys) (asked : Asked) (a b : Next) : Type 0 where
-  pub state : Sim k a.state b.state
+  pub state : IsSealedState k a.state b.state
   pub outputs : Zips (Answers k asked) a.outputs b.outputs

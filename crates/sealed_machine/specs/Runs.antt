@@ -6,8 +6,6 @@ use Rattle.request_queue.specs.declared.asked.Asked.TheVariants as asks
 use Rattle.zk_records.specs.declared.connect.ConnectResponse.{ConnectResponse}
 use Rattle.zk_messages.specs.declared.reply.Event.{Event}
 use Rattle.zk_messages.specs.declared.reply.Reply.{Reply}
-use Rattle.zk_messages.specs.Replies.{HasShape}
-use Rattle.reply_rewrite.specs.Shapes.{shape_for}
 use Rattle.reply_rewrite.specs.Admits.{Admits}
 use Rattle.watch_rewrite.specs.Events.{IsPlainEvent}
 use Rattle.tree_state.specs.declared.message.Message.{Message}
@@ -16,7 +14,7 @@ use Rattle.tree_state.specs.State.{State, session_of}
 use Rattle.tree_state.specs.Changes.{Naming}
 use Rattle.tree_state.specs.Step.{Act, asks as asking, step}
 use Rattle.tree_state.specs.Plain.{plain}
-use Rattle.sealed_machine.specs.Seals.{Sim}
+use Rattle.sealed_machine.specs.Seals.{IsSealedState}
 use Rattle.sealed_machine.specs.Veils.{VeilsCommand, asked_of}
 use Rattle.tree_server.specs.Follows.{ShowsReply, ShowsMessage}
 use Rattle.sealed_machine.specs.Opens.{SealedNext}
@@ -35,7 +33,7 @@ act_asked f = asks.Empty
 
 -- act by act both sides stay in step
 unfoldable pub InStep : EntryKeys → Naming → State → State → List Act → List Act → Type 0
-InStep k naming s t [] [] = Sim k s t
+InStep k naming s t [] [] = IsSealedState k s t
 InStep k naming s t [] (g ∷ gs) = ⊥
 InStep k naming s t (f ∷ fs) [] = ⊥
 InStep k naming s t (f ∷ fs) (g ∷ gs) = SealedNext k (act_asked f) (step plain s f) (step naming t g) × InStep k naming (step plain s f).state (step naming t g).state fs gs
@@ -70,14 +68,14 @@ all_asked c s (f ∷ fs) = asked_in c s f ++ all_asked c (step plain s f).state 
 pub data Matches (k : EntryKeys) : List Question → List Message → List Message → Type 0 where
   nothing : Matches k [] [] []
   seen_event : (e f : Event) (asked : List Question) (ms ns : List Message) → IsPlainEvent k.names f e → Matches k asked ms ns → Matches k asked (messages.Event e ∷ ms) (messages.Event f ∷ ns)
-  seen_reply : (q : Question) (r f : Reply) (asked : List Question) (ms ns : List Message) → r.xid ≡ q.xid → HasShape (shape_for q.asked) f.outcome → ((told : Reply) → ShowsReply f told → Admits k q.asked told r None) → Matches k asked ms ns → Matches k (q ∷ asked) (messages.Reply r ∷ ms) (messages.Reply f ∷ ns)
+  seen_reply : (q : Question) (r f : Reply) (asked : List Question) (ms ns : List Message) → r.xid ≡ q.xid → ((told : Reply) → ShowsReply f told → Admits k q.asked told r None) → Matches k asked ms ns → Matches k (q ∷ asked) (messages.Reply r ∷ ms) (messages.Reply f ∷ ns)
   seen_session : (r : ConnectResponse) (asked : List Question) (ms ns : List Message) → Matches k asked ms ns → Matches k asked (messages.Connected r ∷ ms) (messages.Connected r ∷ ns)
 
 -- the same of what the store tells in place of its machine's messages
 pub data Talks (k : EntryKeys) : List Question → List Message → List Message → Type 0 where
   silent : Talks k [] [] []
   told_event : (e f : Event) (asked : List Question) (ms ns : List Message) → IsPlainEvent k.names f e → Talks k asked ms ns → Talks k asked (messages.Event e ∷ ms) (messages.Event f ∷ ns)
-  told_reply : (q : Question) (r f : Reply) (asked : List Question) (ms ns : List Message) → r.xid ≡ q.xid → HasShape (shape_for q.asked) f.outcome → Admits k q.asked f r None → Talks k asked ms ns → Talks k (q ∷ asked) (messages.Reply r ∷ ms) (messages.Reply f ∷ ns)
+  told_reply : (q : Question) (r f : Reply) (asked : List Question) (ms ns : List Message) → r.xid ≡ q.xid → Admits k q.asked f r None → Talks k asked ms ns → Talks k (q ∷ asked) (messages.Reply r ∷ ms) (messages.Reply f ∷ ns)
   told_session : (r : ConnectResponse) (asked : List Question) (ms ns : List Message) → Talks k asked ms ns → Talks k asked (messages.Connected r ∷ ms) (messages.Connected r ∷ ns)
 
 -- no answer to a connect request is among them

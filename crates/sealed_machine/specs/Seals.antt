@@ -1,7 +1,7 @@
--- The simulation: a plain state of the machine, and a store's with each name and each payload sealed.
+-- A plain state of the machine, and the same one sealed: a store's, with each name and each payload sealed.
 --
--- The two are the same machine at two namings. Their nodes stand in one order, and so do their watches; each stands beside its
--- sealed form.
+-- The two are states of one machine at two namings. Their nodes stand in one order, and so do their watches; each stands
+-- beside its sealed form.
 use Rattle.std.specs.Prelude.{◌≡◌, ℕ, List, [], ◌∷◌, Option, Some, None}
 use Rattle.zk_path.specs.Paths.{IsComponent, IsPath}
 use Rattle.path_seal.specs.Sealed.{Keys, SealName, sealed}
@@ -23,10 +23,10 @@ pub record SealsName (k : Keys) (p : Path) (n m : List ℕ) : Type 0 where
   pub is : m ≡ SealName k p n
 
 -- the root has no content on either side; each other node has a payload that is accepted for its path
-unfoldable pub Holds : List ℕ → Path → Option (List ℕ) → Option (List ℕ) → Type 0
-Holds key [] d y = (d ≡ None) × (y ≡ None)
-Holds key (n ∷ p) d None = ⊥
-Holds key (n ∷ p) d (Some payload) = Accepts key (n ∷ p) payload d
+unfoldable pub Holds : List (List ℕ) → Path → Option (List ℕ) → Option (List ℕ) → Type 0
+Holds keys [] d y = (d ≡ None) × (y ≡ None)
+Holds keys (n ∷ p) d None = ⊥
+Holds keys (n ∷ p) d (Some payload) = Accepts keys (n ∷ p) payload d
 
 pub record SealedNode (k : EntryKeys) (p : Path) (n m : Node) : Type 0 where
   pub content : Holds k.payloads p n.content m.content
@@ -41,8 +41,8 @@ pub record SealedWatch (k : Keys) (w v : Watch) : Type 0 where
   pub path : Seals k w.path v.path
   pub connection : w.connection ≡ v.connection
 
--- the plain state, and the store's
-pub record Sim (k : EntryKeys) (s t : State) : Type 0 where
+-- the second state is the first one, sealed; no two plain nodes have one path
+pub record IsSealedState (k : EntryKeys) (s t : State) : Type 0 where
   pub nodes : Zips (SealedPlace k) s.nodes t.nodes
   pub apart : IsApart s.nodes
   pub sessions : s.sessions ≡ t.sessions

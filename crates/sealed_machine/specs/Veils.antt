@@ -1,9 +1,10 @@
 -- The sealed forms of changes and commands, and what a reply to a command is judged by.
-use Rattle.std.specs.Prelude.{◌≡◌, ℕ, List, [], ◌∷◌, ◌++◌, map, Bool, true, false, Option}
+use Rattle.std.specs.Prelude.{◌≡◌, ◌<◌, ℕ, List, [], ◌∷◌, ◌++◌, length, map, Bool, true, false, Option}
 use Rattle.zk_path.specs.Numbers.{ten_digits}
 use Rattle.zk_path.specs.Paths.{IsComponent, IsStemEnd}
 use Rattle.path_seal.specs.Sealed.{SealName}
 use Rattle.payload_seal.specs.declared.keys.EntryKeys.{EntryKeys}
+use Rattle.payload_seal.specs.Keys.{epoch_of}
 use Rattle.request_queue.specs.declared.asked.Asked.{Asked}
 use Rattle.request_queue.specs.declared.asked.Asked.TheVariants as asks
 use Rattle.request_queue.specs.declared.asked.AskedOp.{AskedOp}
@@ -23,6 +24,11 @@ unfoldable pub IsGiven : Bool → List ℕ → List ℕ → Type 0
 IsGiven true n name = (i : ℕ) × (name ≡ n ++ ten_digits i)
 IsGiven false n name = name ≡ n
 
+-- the IV has 12 bytes, and there is a key of its epoch
+pub record IsIvOf (keys : List (List ℕ)) (iv : List ℕ) : Type 0 where
+  pub size : length iv ≡ 12
+  pub known : epoch_of iv < length keys
+
 -- the parent and the last component are sealed, and the payload is accepted for each path that the node may get
 pub record VeilsCreate (k : EntryKeys) (p : Path) (n : List ℕ) (d : Option (List ℕ)) (sequential : Bool) (q : Path) (m : List ℕ) (y : Option (List ℕ)) : Type 0 where
   pub path : Seals k.names p q
@@ -31,7 +37,7 @@ pub record VeilsCreate (k : EntryKeys) (p : Path) (n : List ℕ) (d : Option (Li
   pub content : (name : List ℕ) → IsGiven sequential n name → Holds k.payloads (name ∷ p) d y
 
 unfoldable pub VeilsChange : EntryKeys → Change → Change → Type 0
-VeilsChange k (create p n d sequential ephemeral) (create q m y numbered kept) = VeilsCreate k p n d sequential q m y × (sequential ≡ numbered) × (ephemeral ≡ kept)
+VeilsChange k (create p n d sequential ephemeral stat) (create q m y numbered kept told) = VeilsCreate k p n d sequential q m y × (sequential ≡ numbered) × (ephemeral ≡ kept) × (stat ≡ told)
 VeilsChange k (delete p v) (delete q w) = Seals k.names p q × (v ≡ w)
 VeilsChange k (set_content p d v) (set_content q y w) = Seals k.names p q × Holds k.payloads p d y × (v ≡ w)
 VeilsChange k (check p v) (check q w) = Seals k.names p q × (v ≡ w)
@@ -61,13 +67,15 @@ VeilsCommand k a b = ⊥
 -- ---- what a reply is judged by
 
 unfoldable pub op_asked : Change → AskedOp
-op_asked (create p n d sequential ephemeral) = op_asks.Create (n ∷ p) sequential
+op_asked (create p n d sequential ephemeral false) = op_asks.Create (n ∷ p) sequential
+op_asked (create p n d sequential ephemeral true) = op_asks.Create2 (n ∷ p) sequential
 op_asked (delete p v) = op_asks.Delete
 op_asked (set_content p d v) = op_asks.SetContent p
 op_asked (check p v) = op_asks.Check
 
 unfoldable pub change_asked : Change → Asked
-change_asked (create p n d sequential ephemeral) = asks.Create (n ∷ p) sequential
+change_asked (create p n d sequential ephemeral false) = asks.Create (n ∷ p) sequential
+change_asked (create p n d sequential ephemeral true) = asks.Create2 (n ∷ p) sequential
 change_asked (delete p v) = asks.Empty
 change_asked (set_content p d v) = asks.StatOf p
 change_asked (check p v) = asks.Empty

@@ -25,14 +25,14 @@ use Rattle.entry_session.specs.StoreTurns.{is_none, IsOfForm}
 use Rattle.session_law.proofs.Words.{AreAsked}
 use Rattle.sealed_machine.specs.Runs.{HasNoConnected}
 use Rattle.tree_server.proofs.Zipping.{Zips}
-use Rattle.sealed_machine.proofs.SimWords.{Sim}
-use Rattle.sealed_machine.proofs.Stepping.{VeilsAct, step_sim}
-use Rattle.sealed_machine.proofs.Talking.{to_connection-append, asked_if, asked_with, asked_in, all_asked}
+use Rattle.sealed_machine.proofs.SealedStates.{IsSealedState}
+use Rattle.sealed_machine.proofs.SealedSteps.{VeilsAct, step_sealed}
+use Rattle.sealed_machine.proofs.Connections.{to_connection-append, asked_if, asked_with, asked_in, all_asked}
 use Rattle.sealed_machine.proofs.NoTrace.{nothing_to, NoTrace, IsOthers, step_quiet}
-use Rattle.sealed_machine.proofs.Orderly.{command_kept, quiet-append, IsNoConnect, step_is_quiet}
+use Rattle.sealed_machine.proofs.FirstAnswers.{command_kept, quiet-append, IsNoConnect, step_is_quiet}
 use Rattle.session_law.proofs.Orders.{Entry, Connect, Take, Lost, Expire, IsAct, IsAsked, MayCome, HasSession, LegalFrom, HasNoConnect, ConnectsOnce}
 use Rattle.session_law.proofs.Filling.{items_in}
-use Rattle.sealed_machine.proofs.Answering.{asked_of}
+use Rattle.sealed_machine.proofs.SealedAnswers.{asked_of}
 
 -- ---- numbers
 
@@ -136,14 +136,14 @@ unfolding all_asked outputs
 after_more c s e es f fs head quiet a = record { asked = head a.asked; quiet = subst HasNoConnected (sym (to_connection-append c (step plain s f).outputs (outputs plain (step plain s f).state fs))) (quiet-append _ _ quiet a.quiet) }
 
 module _ (k : EntryKeys) (w : AreKeys k.names) (naming : Naming) (names : IsNaming (IsSealedName k.names) naming) (passwords : ℤ → List ℕ) (c : ℕ) where
-  after : (es : List Entry) (fs gs : List Act) (s t : State) → HasNoConnect c es → Zips IsAct es fs → Zips (VeilsAct k) fs gs → LegalFrom plain passwords s es fs → Sim k s t → XidsFit (items_in c es) → After c s es fs
+  after : (es : List Entry) (fs gs : List Act) (s t : State) → HasNoConnect c es → Zips IsAct es fs → Zips (VeilsAct k) fs gs → LegalFrom plain passwords s es fs → IsSealedState k s t → XidsFit (items_in c es) → After c s es fs
   unfolding Zips LegalFrom
   after [] [] gs s t n a v l h x = after_nothing c s
   after [] (f ∷ fs) gs s t n a v l h x = absurd a
   after (e ∷ es) [] gs s t n a v l h x = absurd a
   after (e ∷ es) (f ∷ fs) [] s t n a v l h x = absurd v
   after (e ∷ es) (f ∷ fs) (g ∷ gs) s t n a v l h x =
-      let m = step_sim k w naming names s t f g v.0 h in
+      let m = step_sealed k w naming names s t f g v.0 h in
       after_more c s e es f fs (λ j. head_asked c passwords s e es f _ n a.0 l.0.may x j) (step_is_quiet k w naming names c s t f g (no_connect_act c e es f n a.0) v.0 h)
       (after es fs gs _ _ (no_connect_rest c e es n) a.1 v.1 l.1 m.state (rest_fit c e es x))
 
@@ -253,14 +253,14 @@ choose_entry c passwords s (Lost d) es f fs n o a m others own = others (others_
 choose_entry c passwords s (Expire session zxid now) es f fs n o a m others own = others (others_act c passwords s (Expire session zxid now) f n a m (expire_no c session now f a))
 
 module _ (k : EntryKeys) (w : AreKeys k.names) (naming : Naming) (names : IsNaming (IsSealedName k.names) naming) (passwords : ℤ → List ℕ) (c : ℕ) where
-  pub before : (es : List Entry) (fs gs : List Act) (s t : State) → NoTrace c s → ConnectsOnce es → Zips IsAct es fs → Zips (VeilsAct k) fs gs → LegalFrom plain passwords s es fs → Sim k s t → XidsFit (items_in c es) → Phase c s es fs
+  pub before : (es : List Entry) (fs gs : List Act) (s t : State) → NoTrace c s → ConnectsOnce es → Zips IsAct es fs → Zips (VeilsAct k) fs gs → LegalFrom plain passwords s es fs → IsSealedState k s t → XidsFit (items_in c es) → Phase c s es fs
   unfolding Zips LegalFrom outputs
   before [] [] gs s t n o a v l h x = none_yet (nothing_to c)
   before [] (f ∷ fs) gs s t n o a v l h x = absurd a
   before (e ∷ es) [] gs s t n o a v l h x = absurd a
   before (e ∷ es) (f ∷ fs) [] s t n o a v l h x = absurd v
   before (e ∷ es) (f ∷ fs) (g ∷ gs) s t n o a v l h x =
-      let m = step_sim k w naming names s t f g v.0 h in
+      let m = step_sealed k w naming names s t f g v.0 h in
       choose_entry c passwords s e es f fs n o a.0 l.0.may
       (λ i. let q = step_quiet c plain s f i n in
       lift c s e es f fs q.outputs_are (others_items c e es f a.0 i) (others_asked c s f i) (before es fs gs _ _ q.after (once_rest e es o) a.1 v.1 l.1 m.state (rest_fit c e es x)))

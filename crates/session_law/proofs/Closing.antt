@@ -25,10 +25,10 @@ use Rattle.tree_state.specs.Step.{Act, connects, asks as asking, loses, expires,
 use Rattle.tree_server.specs.Out.{outputs, to_connection}
 use Rattle.tree_server.proofs.Zipping.{Zips}
 use Rattle.sealed_machine.specs.Runs.{Question}
-use Rattle.sealed_machine.proofs.Answering.{asked_of, change_asked}
-use Rattle.sealed_machine.proofs.Talking.{to_connection-append, asked_if, asked_with, asked_in, all_asked}
+use Rattle.sealed_machine.proofs.SealedAnswers.{asked_of, change_asked}
+use Rattle.sealed_machine.proofs.Connections.{to_connection-append, asked_if, asked_with, asked_in, all_asked}
 use Rattle.sealed_machine.proofs.NoTrace.{is_of, nothing_to, NoTrace, IsOthers, step_quiet}
-use Rattle.sealed_machine.proofs.Orderly.{IsNoConnect}
+use Rattle.sealed_machine.proofs.FirstAnswers.{IsNoConnect}
 use Rattle.session_law.proofs.Orders.{Entry, Connect, Take, Lost, Expire, IsAct, IsAsked, MayCome, HasSession, LegalFrom, HasNoConnect, ConnectsOnce}
 use Rattle.session_law.proofs.Filling.{items_in}
 use Rattle.session_law.proofs.Begun.{flipped, not_same, other_items, own_items, no_connect_act, no_connect_rest, once_rest, others_act, others_asked, others_items, asked_other}

@@ -24,9 +24,9 @@ pub use Rattle.tree_server.specs.Acts.{IsAsked}
 pub use Rattle.tree_server.specs.Orders.{MayConnect, HasSession, IsOver, IsNext, given_in, next_session}
 pub use Rattle.session_law.specs.Law.{IsVeiled}
 use Rattle.tree_server.proofs.Zipping.{Zips}
-use Rattle.sealed_machine.proofs.SimWords.{Sim}
-use Rattle.sealed_machine.proofs.Border.{veiled_command}
-use Rattle.sealed_machine.proofs.Stepping.{VeilsAct, step_sim}
+use Rattle.sealed_machine.proofs.SealedStates.{IsSealedState}
+use Rattle.sealed_machine.proofs.SealedRequests.{veiled_command}
+use Rattle.sealed_machine.proofs.SealedSteps.{VeilsAct, step_sealed}
 
 -- a request whose veiled form is a request is one command
 some_command : (k : EntryKeys) (ivs : List (List ℕ)) (r v : Request) → Veil k ivs r v → (command : Command) × IsCommand r command
@@ -89,27 +89,27 @@ plain_acts k w (e ∷ es) (f ∷ fs) (g ∷ gs) h a =
 
 -- ---- which may come
 
-may_connect : (k : EntryKeys) (passwords : ℤ → List ℕ) (s t : State) (asked : ConnectRequest) (given : Given) → Sim k s t → MayConnect passwords t asked given → MayConnect passwords s asked given
+may_connect : (k : EntryKeys) (passwords : ℤ → List ℕ) (s t : State) (asked : ConnectRequest) (given : Given) → IsSealedState k s t → MayConnect passwords t asked given → MayConnect passwords s asked given
 may_connect k passwords s t asked given h m = record {
   seen = subst (λ (z : ℤ). asked.seen ≤ℤ z) (sym h.last) m.seen;
   given_is = m.given_is ∙ (λ i. given_to (sym h.sessions i) asked (sym h.greatest i +ℤ pos 1) (passwords (sym h.greatest i +ℤ pos 1)));
   free = subst (λ (xs : List Session). IsFree (session_at given.session xs)) (sym h.sessions) m.free;
 }
 
-has_session : (k : EntryKeys) (s t : State) (c : ℕ) → Sim k s t → HasSession t c → HasSession s c
+has_session : (k : EntryKeys) (s t : State) (c : ℕ) → IsSealedState k s t → HasSession t c → HasSession s c
 has_session k s t c h m = record { session = m.session; live = ap (session_of c) h.sessions ∙ m.live }
 
-is_over : (k : EntryKeys) (s t : State) (session now : ℤ) → Sim k s t → IsOver t session now → IsOver s session now
+is_over : (k : EntryKeys) (s t : State) (session now : ℤ) → IsSealedState k s t → IsOver t session now → IsOver s session now
 is_over k s t session now h m = record { one = m.one; live = ap (session_at session) h.sessions ∙ m.live; up = m.up }
 
-same_may : (k : EntryKeys) (passwords : ℤ → List ℕ) (s t : State) (e : Entry) → Sim k s t → MayCome passwords t e → MayCome passwords s e
+same_may : (k : EntryKeys) (passwords : ℤ → List ℕ) (s t : State) (e : Entry) → IsSealedState k s t → MayCome passwords t e → MayCome passwords s e
 unfolding MayCome
 same_may k passwords s t (Connect c asked session timeout password zxid now) h m = may_connect k passwords s t asked _ h m
 same_may k passwords s t (Take c xid r zxid now) h m = has_session k s t c h m
 same_may k passwords s t (Lost c) h m = has_session k s t c h m
 same_may k passwords s t (Expire session zxid now) h m = is_over k s t session now h m
 
-may_come : (k : EntryKeys) (passwords : ℤ → List ℕ) (s t : State) (e f : Entry) → Sim k s t → VeilsEntry k e f → MayCome passwords t f → MayCome passwords s e
+may_come : (k : EntryKeys) (passwords : ℤ → List ℕ) (s t : State) (e f : Entry) → IsSealedState k s t → VeilsEntry k e f → MayCome passwords t f → MayCome passwords s e
 unfolding VeilsEntry MayCome
 may_come k passwords s t (Take c xid r zxid now) (Take d other v at then_) h i m = has_session k s t c h (subst (HasSession t) (sym i.0) m)
 may_come k passwords s t (Take c xid r zxid now) f h i m = absurd i
@@ -127,7 +127,7 @@ same_last k (Expire session zxid now) f last i l = subst (λ (x : Entry). HasLas
 
 -- the filled order may come where the store's does
 pub legal_sim : (k : EntryKeys) (w : AreKeys k.names) (naming : Naming) (names : IsNaming (IsSealedName k.names) naming) (passwords : ℤ → List ℕ) (es fs : List Entry) (as_ gs : List Act) (s t : State)
-    → Zips (VeilsEntry k) es fs → Zips (VeilsAct k) as_ gs → Sim k s t → LegalFrom naming passwords t fs gs → LegalFrom plain passwords s es as_
+    → Zips (VeilsEntry k) es fs → Zips (VeilsAct k) as_ gs → IsSealedState k s t → LegalFrom naming passwords t fs gs → LegalFrom plain passwords s es as_
 unfolding LegalFrom Zips
 legal_sim k w naming names passwords [] [] [] [] s t i v h l = tt
 legal_sim k w naming names passwords [] [] [] (g ∷ gs) s t i v h l = absurd v
@@ -139,7 +139,7 @@ legal_sim k w naming names passwords (e ∷ es) (f ∷ fs) [] [] s t i v h l = a
 legal_sim k w naming names passwords (e ∷ es) (f ∷ fs) [] (g ∷ gs) s t i v h l = absurd v
 legal_sim k w naming names passwords (e ∷ es) (f ∷ fs) (a ∷ as_) [] s t i v h l = absurd v
 legal_sim k w naming names passwords (e ∷ es) (f ∷ fs) (a ∷ as_) (g ∷ gs) s t i v h l =
-    let n = step_sim k w naming names s t a g v.0 h in (
+    let n = step_sealed k w naming names s t a g v.0 h in (
       record { may = may_come k passwords s t e f h i.0 l.0.may; last_is = subst (HasLast e) (sym n.state.last) (same_last k e f _ i.0 l.0.last_is) },
       legal_sim k w naming names passwords es fs as_ gs _ _ i.1 v.1 n.state l.1,
     )

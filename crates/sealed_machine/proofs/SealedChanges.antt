@@ -13,21 +13,23 @@ use Rattle.watch_rewrite.specs.Events.{IsNodeKind}
 use Rattle.counter_enclave.specs.Enclave.{IsSealedName}
 use Rattle.tree_state.specs.declared.node.Numbers.{Numbers}
 use Rattle.tree_state.specs.declared.node.Moment.{Moment}
-use Rattle.tree_state.specs.Nodes.{Path, Node, above, find, is_there}
+use Rattle.zk_records.specs.declared.stat.Stat.{Stat}
+use Rattle.reply_rewrite.specs.Stats.{IsPlainStat}
+use Rattle.tree_state.specs.Nodes.{Path, Node, Place, above, find, is_there}
 use Rattle.tree_state.specs.State.{State, on_data, on_children, told, left}
 use Rattle.tree_state.specs.Trees.{IsNaming}
 use Rattle.tree_state.specs.Plain.{plain}
 use Rattle.tree_state.specs.Commands.{Change, create, delete, set_content, check}
-use Rattle.tree_state.specs.Changes.{Trial, failed, done, need, refuse, Naming, Effect, event_to, events_to, is_at_last, is_other_version, has_owner, name_for, fresh_numbers, with_creation, with_deletion, with_content, creation_events, left_by_creation, is_not_in, end_events, deletion_events, left_by_deletion, content_events, created, deleted, updated, perform, system_error, bad_arguments, no_node, bad_version, no_children_for_ephemerals, node_exists, not_empty}
+use Rattle.tree_state.specs.Changes.{Trial, failed, done, need, refuse, Naming, Effect, event_to, events_to, is_at_last, is_other_version, has_owner, name_for, fresh_numbers, with_creation, with_deletion, with_content, creation_events, left_by_creation, creation_result, is_not_in, end_events, deletion_events, left_by_deletion, content_events, created, deleted, updated, perform, system_error, bad_arguments, no_node, bad_version, no_children_for_ephemerals, node_exists, not_empty}
 use Rattle.tree_state.proofs.Found.{there_changed, apart_changed, apart_added, apart_removed}
 unfoldable pub use Rattle.sealed_machine.specs.Veils.{IsLast, IsGiven, VeilsChange, op_asked}
 pub use Rattle.sealed_machine.specs.Veils.{VeilsCreate}
 unfoldable pub use Rattle.sealed_machine.specs.Opens.{OpensEvent}
 pub use Rattle.sealed_machine.specs.Opens.{OpensOutput, SealedEffect, SealedEffects}
 use Rattle.tree_server.proofs.Zipping.{Zips, Both, zips_none, zips_append, both_some}
-use Rattle.sealed_machine.proofs.Sealing.{above_seals, child_seals}
-use Rattle.sealed_machine.proofs.Numbering.{sealed_number}
-use Rattle.sealed_machine.proofs.SimWords.{Holds, Seals, SealsName, SealedNode, Sim, found, there, Keeps, change_zips, add_zips, remove_zips, have_children, stats, told_agree, left_zips}
+use Rattle.sealed_machine.proofs.SealedPaths.{above_seals, child_seals}
+use Rattle.sealed_machine.proofs.SealedNames.{sealed_number}
+use Rattle.sealed_machine.proofs.SealedStates.{Holds, Seals, SealsName, SealedNode, SealedPlace, IsSealedState, found, there, Keeps, change_zips, add_zips, remove_zips, have_children, stats, told_agree, left_zips}
 
 -- ---- trials
 
@@ -99,11 +101,26 @@ module _ (k : EntryKeys) (w : AreKeys k.names) where
   is_made n name p false hp h g = (λ i. g i ∷ p)
   is_made n name p true hp h g = subst (λ (x : List ℕ). IsStemOf (x ∷ p) (n ∷ p)) (sym g.1) (is_numbered (n ∷ p) g.0 (h, hp)).1
 
-  pub created_sim : (at : Moment) (p q : Path) (n m stem : List ℕ) (b c : Node) (s t : State) (d : Option (List ℕ)) (sequential ephemeral : Bool)
-      → Seals k.names p q → Seals k.names (n ∷ p) (m ∷ q) → IsLast sequential stem → IsGiven sequential stem n → SealedNode k (n ∷ p) b c → is_there s.nodes (n ∷ p) ≡ false → Sim k s t
-      → SealedEffect k (create p stem d sequential ephemeral) (created at p n b s) (created at q m c t)
-  unfolding created left_by_creation creation_events IsPlainResult op_asked
-  created_sim at p q n m stem b c s t d sequential ephemeral sp sc last is x free h = record {
+  -- the Stat of a new node, beside the path that was asked for
+  stat_of_new : (n m : List ℕ) (p : Path) (a b : Stat) → IsPlainStat (n ∷ p) a b → IsPlainStat (m ∷ p) a b
+  stat_of_new n m p a b h = record { plain_length = h.plain_length; same_rest = h.same_rest }
+
+  creation_plain : (p q : Path) (n m stem : List ℕ) (b c : Node) (d : Option (List ℕ)) (sequential ephemeral stat : Bool)
+      → Seals k.names p q → Seals k.names (n ∷ p) (m ∷ q) → IsLast sequential stem → IsGiven sequential stem n → SealedNode k (n ∷ p) b c
+      → (es fs : List Place) → Zips (SealedPlace k) es fs → IsPlainResult k.names false (op_asked (create p stem d sequential ephemeral stat)) (creation_result stat fs (m ∷ q) c) (creation_result stat es (n ∷ p) b)
+  unfolding creation_result IsPlainResult op_asked
+  creation_plain p q n m stem b c d sequential ephemeral false sp sc last is x es fs z =
+      record { path = n ∷ p; opened = (sc.legal, ap text_of (sym sc.is)); made = is_made stem n p sequential sp.legal last is; spelled = refl }
+  creation_plain p q n m stem b c d sequential ephemeral true sp sc last is x es fs z = (
+    record { path = n ∷ p; opened = (sc.legal, ap text_of (sym sc.is)); made = is_made stem n p sequential sp.legal last is; spelled = refl },
+    stat_of_new n stem p _ _ (stats k w (n ∷ p) (m ∷ q) b c sc x es fs z),
+  )
+
+  pub created_sealed : (at : Moment) (p q : Path) (n m stem : List ℕ) (b c : Node) (s t : State) (d : Option (List ℕ)) (sequential ephemeral stat : Bool)
+      → Seals k.names p q → Seals k.names (n ∷ p) (m ∷ q) → IsLast sequential stem → IsGiven sequential stem n → SealedNode k (n ∷ p) b c → is_there s.nodes (n ∷ p) ≡ false → IsSealedState k s t
+      → SealedEffect k (create p stem d sequential ephemeral stat) (created at p n b stat s) (created at q m c stat t)
+  unfolding created left_by_creation creation_events
+  created_sealed at p q n m stem b c s t d sequential ephemeral stat sp sc last is x free h = record {
     state = record {
       nodes = add_zips k w (n ∷ p) (m ∷ q) b c sc x _ _ (change_zips k w p q (with_creation at.zxid) (with_creation at.zxid) sp (with_creation_keeps p at.zxid) s.nodes t.nodes h.nodes);
       apart = apart_added (n ∷ p) b _ (there_changed p (n ∷ p) (with_creation at.zxid) s.nodes ∙ free) (apart_changed p (with_creation at.zxid) s.nodes h.apart);
@@ -112,14 +129,15 @@ module _ (k : EntryKeys) (w : AreKeys k.names) where
       greatest = h.greatest;
       last = refl;
     };
-    result = record { path = n ∷ p; opened = (sc.legal, ap text_of (sym sc.is)); made = is_made stem n p sequential sp.legal last is; spelled = refl };
+    result = creation_plain p q n m stem b c d sequential ephemeral stat sp sc last is x _ _
+        (add_zips k w (n ∷ p) (m ∷ q) b c sc x _ _ (change_zips k w p q (with_creation at.zxid) (with_creation at.zxid) sp (with_creation_keeps p at.zxid) s.nodes t.nodes h.nodes));
     events = zips_append (OpensOutput k.names) _ _ _ _ (events_zip (pos 1) (n ∷ p) (m ∷ q) _ _ (omega (arith, ints), omega (arith, ints)) sc (told_agree k w on_data (n ∷ p) (m ∷ q) sc s.watches t.watches h.watches))
         (events_zip (pos 4) p q _ _ (omega (arith, ints), omega (arith, ints)) sp (told_agree k w on_children p q sp s.watches t.watches h.watches));
   }
 
-  pub deleted_sim : (z v : ℤ) (p q : Path) (s t : State) → Seals k.names p q → Sim k s t → SealedEffect k (delete p v) (deleted z p s) (deleted z q t)
+  pub deleted_sealed : (z v : ℤ) (p q : Path) (s t : State) → Seals k.names p q → IsSealedState k s t → SealedEffect k (delete p v) (deleted z p s) (deleted z q t)
   unfolding deleted left_by_deletion deletion_events end_events IsPlainResult op_asked
-  deleted_sim z v p q s t sp h =
+  deleted_sealed z v p q s t sp h =
       let up = above_seals k.names p q sp in
       let a = told_agree k w on_data p q sp s.watches t.watches h.watches in
       let b = told_agree k w on_children p q sp s.watches t.watches h.watches in
@@ -140,10 +158,10 @@ module _ (k : EntryKeys) (w : AreKeys k.names) where
             (events_zip (pos 4) (above p) (above q) _ _ (omega (arith, ints), omega (arith, ints)) up c);
       }
 
-  pub updated_sim : (at : Moment) (v : ℤ) (p q : Path) (d y : Option (List ℕ)) (b c : Node) (s t : State) → Seals k.names p q → Holds k.payloads p d y → SealedNode k p b c → Sim k s t
+  pub updated_sealed : (at : Moment) (v : ℤ) (p q : Path) (d y : Option (List ℕ)) (b c : Node) (s t : State) → Seals k.names p q → Holds k.payloads p d y → SealedNode k p b c → IsSealedState k s t
       → SealedEffect k (set_content p d v) (updated at p d b s) (updated at q y c t)
   unfolding updated content_events IsPlainResult op_asked
-  updated_sim at v p q d y b c s t sp hd x h = record {
+  updated_sealed at v p q d y b c s t sp hd x h = record {
     state = record {
       nodes = change_zips k w p q (with_content at d) (with_content at y) sp (with_content_keeps p at d y hd) s.nodes t.nodes h.nodes;
       apart = apart_changed p (with_content at d) s.nodes h.apart;
@@ -184,52 +202,52 @@ module _ (k : EntryKeys) (w : AreKeys k.names) where
       → SealedNode k p (record { content = d; numbers = fresh_numbers at e }) (record { content = y; numbers = fresh_numbers at e })
   fresh at p d y e a = record { content = a; numbers = refl }
 
-  named : (at : Moment) (s t : State) (p q : Path) (n m : List ℕ) (d y : Option (List ℕ)) (sequential ephemeral : Bool) → VeilsCreate k p n d sequential q m y → Sim k s t
-      → (name other : List ℕ) → NameFor p n sequential name other → Alike (SealedEffect k (create p n d sequential ephemeral))
-      (refuse (is_there s.nodes (name ∷ p)) node_exists (done (created at p name (record { content = d; numbers = fresh_numbers at ephemeral }) s)))
-      (refuse (is_there t.nodes (other ∷ q)) node_exists (done (created at q other (record { content = y; numbers = fresh_numbers at ephemeral }) t)))
+  named : (at : Moment) (s t : State) (p q : Path) (n m : List ℕ) (d y : Option (List ℕ)) (sequential ephemeral stat : Bool) → VeilsCreate k p n d sequential q m y → IsSealedState k s t
+      → (name other : List ℕ) → NameFor p n sequential name other → Alike (SealedEffect k (create p n d sequential ephemeral stat))
+      (refuse (is_there s.nodes (name ∷ p)) node_exists (done (created at p name (record { content = d; numbers = fresh_numbers at ephemeral }) stat s)))
+      (refuse (is_there t.nodes (other ∷ q)) node_exists (done (created at q other (record { content = y; numbers = fresh_numbers at ephemeral }) stat t)))
   unfolding NameFor
-  named at s t p q n m d y sequential ephemeral r h name other x =
-      let R = SealedEffect k (create p n d sequential ephemeral) in
+  named at s t p q n m d y sequential ephemeral stat r h name other x =
+      let R = SealedEffect k (create p n d sequential ephemeral stat) in
       let c = child_seals k.names p q name other r.path x.0 in
       refuse_alike R _ _ node_exists _ _ (there k w (name ∷ p) (other ∷ q) c s.nodes t.nodes h.nodes)
-      (λ free. done_alike ℤ R _ _ (created_sim at p q name other n _ _ s t d sequential ephemeral r.path c r.last x.1 (fresh at (name ∷ p) d y ephemeral (r.content name x.1)) free h))
+      (λ free. done_alike ℤ R _ _ (created_sealed at p q name other n _ _ s t d sequential ephemeral stat r.path c r.last x.1 (fresh at (name ∷ p) d y ephemeral (r.content name x.1)) free h))
 
-  create_sim : (naming : Naming) → IsNaming (IsSealedName k.names) naming → (at : Moment) (s t : State) (p q : Path) (n m : List ℕ) (d y : Option (List ℕ)) (sequential ephemeral : Bool) → VeilsCreate k p n d sequential q m y → Sim k s t
-      → Alike (SealedEffect k (create p n d sequential ephemeral)) (perform plain at s (create p n d sequential ephemeral)) (perform naming at t (create q m y sequential ephemeral))
+  create_sealed : (naming : Naming) → IsNaming (IsSealedName k.names) naming → (at : Moment) (s t : State) (p q : Path) (n m : List ℕ) (d y : Option (List ℕ)) (sequential ephemeral stat : Bool) → VeilsCreate k p n d sequential q m y → IsSealedState k s t
+      → Alike (SealedEffect k (create p n d sequential ephemeral stat)) (perform plain at s (create p n d sequential ephemeral stat)) (perform naming at t (create q m y sequential ephemeral stat))
   unfolding perform
-  create_sim naming names at s t p q n m d y sequential ephemeral r h =
-      let R = SealedEffect k (create p n d sequential ephemeral) in
+  create_sealed naming names at s t p q n m d y sequential ephemeral stat r h =
+      let R = SealedEffect k (create p n d sequential ephemeral stat) in
       need_alike (SealedNode k p) R (find s.nodes p) (find t.nodes q) no_node _ _ (found k w p q r.path s.nodes t.nodes h.nodes) λ b c x.
       refuse_alike R _ _ no_children_for_ephemerals _ _ (owners p b c x) (λ o.
       refuse_alike R _ _ system_error _ _ (ap (λ (z : Numbers). is_at_last z.creations) x.numbers) (λ l.
       need_alike (NameFor p n sequential) R (name_for plain p n sequential b) (name_for naming q m sequential c) bad_arguments _ _ (names_for naming names p q n m d y sequential b c r x) λ name other v.
-      named at s t p q n m d y sequential ephemeral r h name other v))
+      named at s t p q n m d y sequential ephemeral stat r h name other v))
 
-  delete_sim : (naming other : Naming) (at : Moment) (s t : State) (p q : Path) (v u : ℤ) → Seals k.names p q → v ≡ u → Sim k s t
+  delete_sealed : (naming other : Naming) (at : Moment) (s t : State) (p q : Path) (v u : ℤ) → Seals k.names p q → v ≡ u → IsSealedState k s t
       → Alike (SealedEffect k (delete p v)) (perform naming at s (delete p v)) (perform other at t (delete q u))
   unfolding perform
-  delete_sim naming other at s t p q v u sp e h =
+  delete_sealed naming other at s t p q v u sp e h =
       let R = SealedEffect k (delete p v) in
       need_alike (SealedNode k p) R (find s.nodes p) (find t.nodes q) no_node _ _ (found k w p q sp s.nodes t.nodes h.nodes) λ b c x.
       refuse_alike R _ _ bad_version _ _ (versions v u p b c e x) (λ o.
       refuse_alike R _ _ not_empty _ _ (have_children k w p q sp s.nodes t.nodes h.nodes) (λ l.
-      done_alike ℤ R _ _ (deleted_sim at.zxid v p q s t sp h)))
+      done_alike ℤ R _ _ (deleted_sealed at.zxid v p q s t sp h)))
 
-  set_sim : (naming other : Naming) (at : Moment) (s t : State) (p q : Path) (d y : Option (List ℕ)) (v u : ℤ) → Seals k.names p q → Holds k.payloads p d y → v ≡ u → Sim k s t
+  set_sealed : (naming other : Naming) (at : Moment) (s t : State) (p q : Path) (d y : Option (List ℕ)) (v u : ℤ) → Seals k.names p q → Holds k.payloads p d y → v ≡ u → IsSealedState k s t
       → Alike (SealedEffect k (set_content p d v)) (perform naming at s (set_content p d v)) (perform other at t (set_content q y u))
   unfolding perform
-  set_sim naming other at s t p q d y v u sp hd e h =
+  set_sealed naming other at s t p q d y v u sp hd e h =
       let R = SealedEffect k (set_content p d v) in
       need_alike (SealedNode k p) R (find s.nodes p) (find t.nodes q) no_node _ _ (found k w p q sp s.nodes t.nodes h.nodes) λ b c x.
       refuse_alike R _ _ bad_version _ _ (versions v u p b c e x) (λ o.
       refuse_alike R _ _ system_error _ _ (ap (λ (z : Numbers). is_at_last z.version) x.numbers) (λ l.
-      done_alike ℤ R _ _ (updated_sim at v p q d y b c s t sp hd x h)))
+      done_alike ℤ R _ _ (updated_sealed at v p q d y b c s t sp hd x h)))
 
-  check_sim : (naming other : Naming) (at : Moment) (s t : State) (p q : Path) (v u : ℤ) → Seals k.names p q → v ≡ u → Sim k s t
+  check_sealed : (naming other : Naming) (at : Moment) (s t : State) (p q : Path) (v u : ℤ) → Seals k.names p q → v ≡ u → IsSealedState k s t
       → Alike (SealedEffect k (check p v)) (perform naming at s (check p v)) (perform other at t (check q u))
   unfolding perform IsPlainResult op_asked
-  check_sim naming other at s t p q v u sp e h =
+  check_sealed naming other at s t p q v u sp e h =
       let R = SealedEffect k (check p v) in
       need_alike (SealedNode k p) R (find s.nodes p) (find t.nodes q) no_node _ _ (found k w p q sp s.nodes t.nodes h.nodes) λ b c x.
       refuse_alike R _ _ bad_version _ _ (versions v u p b c e x) (λ o.
@@ -239,21 +257,20 @@ module _ (k : EntryKeys) (w : AreKeys k.names) where
         events = zips_none (OpensOutput k.names);
       }))
 
-  same_mode : (naming : Naming) (at : Moment) (t : State) (q : Path) (m : List ℕ) (y : Option (List ℕ)) (b c e f : Bool) (R : Effect → Effect → Type 0) (o : Trial ℤ Effect) → b ≡ c → e ≡ f
-      → Alike R o (perform naming at t (create q m y b e)) → Alike R o (perform naming at t (create q m y c f))
-  same_mode naming at t q m y b c e f R o g h x =
-      subst (λ (z : Bool). Alike R o (perform naming at t (create q m y c z))) h (subst (λ (z : Bool). Alike R o (perform naming at t (create q m y z e))) g x)
+  same_mode : (naming : Naming) (at : Moment) (t : State) (q : Path) (m : List ℕ) (y : Option (List ℕ)) (b c e f u v : Bool) (R : Effect → Effect → Type 0) (o : Trial ℤ Effect) → b ≡ c → e ≡ f → u ≡ v
+      → Alike R o (perform naming at t (create q m y b e u)) → Alike R o (perform naming at t (create q m y c f v))
+  same_mode naming at t q m y b c e f u v R o g h j x = subst (λ (z : Trial ℤ Effect). Alike R o z) (λ i. perform naming at t (create q m y (g i) (h i) (j i))) x
 
   -- a change and its sealed form
-  pub perform_sim : (naming : Naming) → IsNaming (IsSealedName k.names) naming → (at : Moment) (s t : State) (c d : Change) → VeilsChange k c d → Sim k s t
+  pub perform_sealed : (naming : Naming) → IsNaming (IsSealedName k.names) naming → (at : Moment) (s t : State) (c d : Change) → VeilsChange k c d → IsSealedState k s t
       → Alike (SealedEffect k c) (perform plain at s c) (perform naming at t d)
   unfolding VeilsChange
-  perform_sim naming names at s t (create p n d sequential ephemeral) (create q m y numbered kept) r h =
-      same_mode naming at t q m y sequential numbered ephemeral kept _ _ r.1 r.2 (create_sim naming names at s t p q n m d y sequential ephemeral r.0 h)
-  perform_sim naming names at s t (create p n d sequential ephemeral) b r h = absurd r
-  perform_sim naming names at s t (delete p v) (delete q u) r h = delete_sim plain naming at s t p q v u r.0 r.1 h
-  perform_sim naming names at s t (delete p v) b r h = absurd r
-  perform_sim naming names at s t (set_content p d v) (set_content q y u) r h = set_sim plain naming at s t p q d y v u r.0 r.1 r.2 h
-  perform_sim naming names at s t (set_content p d v) b r h = absurd r
-  perform_sim naming names at s t (check p v) (check q u) r h = check_sim plain naming at s t p q v u r.0 r.1 h
-  perform_sim naming names at s t (check p v) b r h = absurd r
+  perform_sealed naming names at s t (create p n d sequential ephemeral stat) (create q m y numbered kept told_stat) r h =
+      same_mode naming at t q m y sequential numbered ephemeral kept stat told_stat _ _ r.1 r.2 r.3 (create_sealed naming names at s t p q n m d y sequential ephemeral stat r.0 h)
+  perform_sealed naming names at s t (create p n d sequential ephemeral stat) b r h = absurd r
+  perform_sealed naming names at s t (delete p v) (delete q u) r h = delete_sealed plain naming at s t p q v u r.0 r.1 h
+  perform_sealed naming names at s t (delete p v) b r h = absurd r
+  perform_sealed naming names at s t (set_content p d v) (set_content q y u) r h = set_sealed plain naming at s t p q d y v u r.0 r.1 r.2 h
+  perform_sealed naming names at s t (set_content p d v) b r h = absurd r
+  perform_sealed naming names at s t (check p v) (check q u) r h = check_sealed plain naming at s t p q v u r.0 r.1 h
+  perform_sealed naming names at s t (check p v) b r h = absurd r

@@ -6,8 +6,6 @@ use Rattle.payload_seal.specs.declared.keys.EntryKeys.{EntryKeys}
 use Rattle.zk_records.specs.declared.connect.ConnectRequest.{ConnectRequest}
 use Rattle.zk_records.specs.declared.connect.ConnectResponse.{ConnectResponse}
 use Rattle.zk_messages.specs.declared.reply.Reply.{Reply}
-use Rattle.zk_messages.specs.Replies.{HasShape}
-use Rattle.reply_rewrite.specs.Shapes.{shape_for}
 use Rattle.reply_rewrite.specs.Admits.{Admits}
 use Rattle.counter_enclave.specs.Enclave.{IsSealedName}
 use Rattle.tree_state.specs.declared.message.Message.{Message}
@@ -26,22 +24,21 @@ unfoldable pub use Rattle.sealed_machine.specs.Runs.{asked_if, asked_with, asked
 pub use Rattle.sealed_machine.specs.Runs.{Question}
 pub use Rattle.sealed_machine.specs.Runs.{Matches, nothing, seen_event, seen_reply, seen_session, Talks, silent, told_event, told_reply, told_session}
 pub use Rattle.tree_server.specs.Follows.{Shown}
-use Rattle.sealed_machine.proofs.Shaped.{answer_shape, shows_shape}
 use Rattle.tree_server.proofs.Zipping.{Zips}
-use Rattle.sealed_machine.proofs.SimWords.{Sim}
+use Rattle.sealed_machine.proofs.SealedStates.{IsSealedState}
 use Rattle.tree_state.specs.Nodes.{ephemerals}
 use Rattle.tree_state.specs.State.{next_zxid}
 use Rattle.tree_state.specs.Changes.{all_deleted}
-use Rattle.sealed_machine.proofs.SimWords.{ephemerals_zip}
-use Rattle.sealed_machine.proofs.Several.{all_deleted_sim}
-use Rattle.sealed_machine.proofs.Effects.{OpensEvent, OpensOutput}
-use Rattle.sealed_machine.proofs.Answering.{VeilsCommand, asked_of, SealedAnswer}
-use Rattle.sealed_machine.proofs.Stepping.{ShowsReply, VeilsAct, answered, reply_opens, next_sim, step_sim, start_sim}
+use Rattle.sealed_machine.proofs.SealedStates.{ephemerals_zip}
+use Rattle.sealed_machine.proofs.SealedMultis.{all_deleted_sealed}
+use Rattle.sealed_machine.proofs.SealedChanges.{OpensEvent, OpensOutput}
+use Rattle.sealed_machine.proofs.SealedAnswers.{VeilsCommand, asked_of, SealedAnswer}
+use Rattle.sealed_machine.proofs.SealedSteps.{ShowsReply, VeilsAct, answered, reply_opens, next_sealed, step_sealed, start_sealed}
 
 pub Matches-append : (k : EntryKeys) (a b : List Question) (ms ns us vs : List Message) → Matches k a ms ns → Matches k b us vs → Matches k (a ++ b) (ms ++ us) (ns ++ vs)
 Matches-append k a b ms ns us vs nothing j = j
 Matches-append k a b ms ns us vs (seen_event e f a' ms' ns' s h) j = seen_event e f _ _ _ s (Matches-append k a' b ms' ns' us vs h j)
-Matches-append k a b ms ns us vs (seen_reply c r f a' ms' ns' x z s h) j = seen_reply c r f _ _ _ x z s (Matches-append k a' b ms' ns' us vs h j)
+Matches-append k a b ms ns us vs (seen_reply c r f a' ms' ns' x s h) j = seen_reply c r f _ _ _ x s (Matches-append k a' b ms' ns' us vs h j)
 Matches-append k a b ms ns us vs (seen_session r a' ms' ns' h) j = seen_session r _ _ _ (Matches-append k a' b ms' ns' us vs h j)
 
 pub to_connection-append : (c : ℕ) (os us : List Output) → to_connection c (os ++ us) ≡ to_connection c os ++ to_connection c us
@@ -72,11 +69,11 @@ module _ (k : EntryKeys) (w : AreKeys k.names) where
   events_match c (o ∷ os) (u ∷ us) h =
       event_first (o.connection == c) (u.connection == c) o.message u.message _ _ (ap (λ (d : ℕ). d == c) h.0.connection) h.0.event (events_match c os us h.1)
 
-  reply_at : (b : Bool) (q : Question) (r f : Reply) → r.xid ≡ q.xid → HasShape (shape_for q.asked) f.outcome → ((told : Reply) → ShowsReply f told → Admits k q.asked told r None)
+  reply_at : (b : Bool) (q : Question) (r f : Reply) → r.xid ≡ q.xid → ((told : Reply) → ShowsReply f told → Admits k q.asked told r None)
       → Matches k (asked_if b q) (cond b (messages.Reply r ∷ []) []) (cond b (messages.Reply f ∷ []) [])
   unfolding asked_if
-  reply_at true q r f e z h = seen_reply q r f [] [] [] e z h nothing
-  reply_at false q r f e z h = nothing
+  reply_at true q r f e h = seen_reply q r f [] [] [] e h nothing
+  reply_at false q r f e h = nothing
 
   session_at : (b : Bool) (r : ConnectResponse) → Matches k [] (cond b (messages.Connected r ∷ []) []) (cond b (messages.Connected r ∷ []) [])
   session_at true r = seen_session r [] [] [] nothing
@@ -90,9 +87,9 @@ module _ (k : EntryKeys) (w : AreKeys k.names) where
   unfolding to_connection
   to_one c d m = refl
 
-  replied_match : (c d : ℕ) (xid : ℤ) (command : Command) (a b : Answer) → HasShape (shape_for (asked_of command)) b.outcome → SealedAnswer k command a b → Matches k (asked_if (d == c) (record { xid = xid; asked = asked_of command })) (to_connection c (replied d xid a).outputs) (to_connection c (replied d xid b).outputs)
+  replied_match : (c d : ℕ) (xid : ℤ) (command : Command) (a b : Answer) → SealedAnswer k command a b → Matches k (asked_if (d == c) (record { xid = xid; asked = asked_of command })) (to_connection c (replied d xid a).outputs) (to_connection c (replied d xid b).outputs)
   unfolding replied
-  replied_match c d xid command a b z h =
+  replied_match c d xid command a b h =
       let r : Reply = record { xid = xid; zxid = a.state.last; outcome = a.outcome } in
       let f : Reply = record { xid = xid; zxid = b.state.last; outcome = b.outcome } in
       let m : List Output = record { connection = d; message = messages.Reply r } ∷ [] in
@@ -100,18 +97,18 @@ module _ (k : EntryKeys) (w : AreKeys k.names) where
       let ms = to_connection-append c a.events m ∙ ap (λ (l : List Message). to_connection c a.events ++ l) (to_one c d (messages.Reply r)) in
       let ns = to_connection-append c b.events n ∙ ap (λ (l : List Message). to_connection c b.events ++ l) (to_one c d (messages.Reply f)) in
       let both = Matches-append k [] (asked_if (d == c) (record { xid = xid; asked = asked_of command })) _ _ _ _ (events_match c a.events b.events h.events)
-      (reply_at (d == c) (record { xid = xid; asked = asked_of command }) r f refl z (reply_opens k w command xid a b h)) in
+      (reply_at (d == c) (record { xid = xid; asked = asked_of command }) r f refl (reply_opens k w command xid a b h)) in
       subst (λ (l : List Message). Matches k (asked_if (d == c) (record { xid = xid; asked = asked_of command })) l (to_connection c (b.events ++ n))) (sym ms)
       (subst (λ (l : List Message). Matches k (asked_if (d == c) (record { xid = xid; asked = asked_of command })) (to_connection c a.events ++ cond (d == c) (messages.Reply r ∷ []) []) l) (sym ns) both)
 
   module _ (naming : Naming) (names : IsNaming (IsSealedName k.names) naming) where
-    taken_match : (c d : ℕ) (xid : ℤ) (a b : Command) (now : ℤ) (s t : State) (o : Option ℤ) → VeilsCommand k a b → Sim k s t
+    taken_match : (c d : ℕ) (xid : ℤ) (a b : Command) (now : ℤ) (s t : State) (o : Option ℤ) → VeilsCommand k a b → IsSealedState k s t
         → Matches k (asked_with c d (record { xid = xid; asked = asked_of a }) o) (to_connection c (taken plain d xid a now s o).outputs) (to_connection c (taken naming d xid b now t o).outputs)
     unfolding taken asked_with
     taken_match c d xid a b now s t None v h = events_match c [] [] nothing_zips
-    taken_match c d xid a b now s t (Some session) v h = let x = answered k w naming names d a b now session s t v h in replied_match c d xid a _ _ (answer_shape k naming _ d _ a b _ v x) x
+    taken_match c d xid a b now s t (Some session) v h = replied_match c d xid a _ _ (answered k w naming names d a b now session s t v h)
 
-    asks_match : (c d e : ℕ) (x y : ℤ) (a b : Command) (now then_ : ℤ) (s t : State) → d ≡ e → x ≡ y → VeilsCommand k a b → now ≡ then_ → Sim k s t
+    asks_match : (c d e : ℕ) (x y : ℤ) (a b : Command) (now then_ : ℤ) (s t : State) → d ≡ e → x ≡ y → VeilsCommand k a b → now ≡ then_ → IsSealedState k s t
         → Matches k (asked_with c d (record { xid = x; asked = asked_of a }) (session_of d s.sessions)) (to_connection c (step plain s (asking d x a now)).outputs) (to_connection c (step naming t (asking e y b then_)).outputs)
     unfolding step
     asks_match c d e x y a b now then_ s t i f v g h =
@@ -128,18 +125,18 @@ module _ (k : EntryKeys) (w : AreKeys k.names) where
     unfolding step
     loses_match c d s t = events_match c [] [] nothing_zips
 
-    expires_match : (c : ℕ) (session now : ℤ) (s t : State) → Sim k s t → Matches k [] (to_connection c (step plain s (expires session now)).outputs) (to_connection c (step naming t (expires session now)).outputs)
+    expires_match : (c : ℕ) (session now : ℤ) (s t : State) → IsSealedState k s t → Matches k [] (to_connection c (step plain s (expires session now)).outputs) (to_connection c (step naming t (expires session now)).outputs)
     unfolding step expired
     expires_match c session now s t h =
-        let e = all_deleted_sim k w (next_zxid s) _ _ s t (ephemerals_zip k w session s.nodes t.nodes h.nodes) h in
-        subst (λ (z : ℤ). Matches k [] (to_connection c (all_deleted (next_zxid s) (ephemerals session s.nodes) s).events) (to_connection c (all_deleted z (ephemerals session t.nodes) t).events)) (next_sim k w s t h)
+        let e = all_deleted_sealed k w (next_zxid s) _ _ s t (ephemerals_zip k w session s.nodes t.nodes h.nodes) h in
+        subst (λ (z : ℤ). Matches k [] (to_connection c (all_deleted (next_zxid s) (ephemerals session s.nodes) s).events) (to_connection c (all_deleted z (ephemerals session t.nodes) t).events)) (next_sealed k w s t h)
         (events_match c _ _ e.events)
 
     along : (c : ℕ) (s t : State) (f g : Act) → f ≡ g → Matches k [] (to_connection c (step plain s f).outputs) (to_connection c (step naming t f).outputs)
         → Matches k [] (to_connection c (step plain s f).outputs) (to_connection c (step naming t g).outputs)
     along c s t f g e h = subst (λ (x : Act). Matches k [] (to_connection c (step plain s f).outputs) (to_connection c (step naming t x).outputs)) e h
 
-    pub step_match : (c : ℕ) (s t : State) (f g : Act) → VeilsAct k f g → Sim k s t → Matches k (asked_in c s f) (to_connection c (step plain s f).outputs) (to_connection c (step naming t g).outputs)
+    pub step_match : (c : ℕ) (s t : State) (f g : Act) → VeilsAct k f g → IsSealedState k s t → Matches k (asked_in c s f) (to_connection c (step plain s f).outputs) (to_connection c (step naming t g).outputs)
     unfolding VeilsAct asked_in
     step_match c s t (asking d x a now) (asking e y b then_) v h = asks_match c d e x y a b now then_ s t v.0 v.1 v.2 v.3 h
     step_match c s t (asking d x a now) g v h = absurd v
@@ -148,20 +145,20 @@ module _ (k : EntryKeys) (w : AreKeys k.names) where
     step_match c s t (expires session now) g v h = along c s t _ g v (expires_match c session now s t h)
 
     -- over a run: every reply of the store answers the next thing asked, and opens to the plain one
-    pub run_match : (c : ℕ) (fs gs : List Act) (s t : State) → Zips (VeilsAct k) fs gs → Sim k s t
+    pub run_match : (c : ℕ) (fs gs : List Act) (s t : State) → Zips (VeilsAct k) fs gs → IsSealedState k s t
         → Matches k (all_asked c s fs) (to_connection c (outputs plain s fs)) (to_connection c (outputs naming t gs))
     unfolding outputs all_asked Zips
     run_match c [] [] s t v h = events_match c [] [] nothing_zips
     run_match c [] (g ∷ gs) s t v h = absurd v
     run_match c (f ∷ fs) [] s t v h = absurd v
     run_match c (f ∷ fs) (g ∷ gs) s t v h =
-        let n = step_sim k w naming names s t f g v.0 h in
+        let n = step_sealed k w naming names s t f g v.0 h in
         let j = Matches-append k _ _ _ _ _ _ (step_match c s t f g v.0 h) (run_match c fs gs _ _ v.1 n.state) in
         subst (λ (l : List Message). Matches k (asked_in c s f ++ all_asked c (step plain s f).state fs) l (to_connection c ((step naming t g).outputs ++ outputs naming (step naming t g).state gs))) (sym (to_connection-append c (step plain s f).outputs (outputs plain (step plain s f).state fs)))
         (subst (λ (l : List Message). Matches k (asked_in c s f ++ all_asked c (step plain s f).state fs) (to_connection c (step plain s f).outputs ++ to_connection c (outputs plain (step plain s f).state fs)) l) (sym (to_connection-append c (step naming t g).outputs (outputs naming (step naming t g).state gs))) j)
 
     pub all_match : (c : ℕ) (fs gs : List Act) → Zips (VeilsAct k) fs gs → Matches k (all_asked c start fs) (out plain fs c) (out naming gs c)
-    all_match c fs gs v = run_match c fs gs start start v (start_sim k)
+    all_match c fs gs v = run_match c fs gs start start v (start_sealed k)
 
 -- what a store tells in place of its machine's messages
 pub all_told : (k : EntryKeys) (asked : List Question) (ms ns told : List Message) → Matches k asked ms ns → Shown ns told → Talks k asked ms told
@@ -170,8 +167,8 @@ all_told k asked ms ns [] nothing s = silent
 all_told k asked ms ns (t ∷ told) nothing s = absurd s
 all_told k asked ms ns [] (seen_event e f a ms' ns' i h) s = absurd s
 all_told k asked ms ns (t ∷ told) (seen_event e f a ms' ns' i h) s = subst (λ (x : Message). Talks k a (messages.Event e ∷ ms') (x ∷ told)) (sym s.0) (told_event e f a ms' told i (all_told k a ms' ns' told h s.1))
-all_told k asked ms ns [] (seen_reply c r f a ms' ns' x z i h) s = absurd s
-all_told k asked ms ns (messages.Reply t ∷ told) (seen_reply c r f a ms' ns' x z i h) s = told_reply c r t a ms' told x (shows_shape (shape_for c.asked) f.outcome t.outcome s.0.outcome z) (i t s.0) (all_told k a ms' ns' told h s.1)
-all_told k asked ms ns (t ∷ told) (seen_reply c r f a ms' ns' x z i h) s = absurd s.0
+all_told k asked ms ns [] (seen_reply c r f a ms' ns' x i h) s = absurd s
+all_told k asked ms ns (messages.Reply t ∷ told) (seen_reply c r f a ms' ns' x i h) s = told_reply c r t a ms' told x (i t s.0) (all_told k a ms' ns' told h s.1)
+all_told k asked ms ns (t ∷ told) (seen_reply c r f a ms' ns' x i h) s = absurd s.0
 all_told k asked ms ns [] (seen_session r a ms' ns' h) s = absurd s
 all_told k asked ms ns (t ∷ told) (seen_session r a ms' ns' h) s = subst (λ (x : Message). Talks k a (messages.Connected r ∷ ms') (x ∷ told)) (sym s.0) (told_session r a ms' told (all_told k a ms' ns' told h s.1))

@@ -1,4 +1,4 @@
--- The simulation, word by word: nodes, children, ephemerals, Stats, watches.
+-- A sealed state, word by word: nodes, children, ephemerals, Stats, watches.
 use Rattle.std.proofs.Common.{◌≡◌, ℕ, ℤ, pos, ◌+◌, Bool, true, false, List, [], ◌∷◌, Option, Some, None, length, refl, sym, ap, subst, arith, length-append}
 use Rattle.std.proofs.lemmas.Int.{ints}
 use Rattle.std.specs.Prelude.{◌==◌, ◌≤ℤ◌, ◌-ℤ◌, not, min, nat_le}
@@ -14,9 +14,9 @@ use Rattle.tree_state.specs.Nodes.{Path, Node, Place, same_path, find, is_there,
 use Rattle.tree_state.specs.State.{Aspect, Watch, is_on, is_off, connection_if_on, told, left, is_of_other, left_of_others, after_lower, is_same_watch, watching, watching_if}
 use Rattle.tree_state.proofs.SamePaths.{same_path-true}
 unfoldable pub use Rattle.sealed_machine.specs.Seals.{Holds}
-pub use Rattle.sealed_machine.specs.Seals.{Seals, SealsName, SealedNode, SealedPlace, SealedWatch, Sim}
+pub use Rattle.sealed_machine.specs.Seals.{Seals, SealsName, SealedNode, SealedPlace, SealedWatch, IsSealedState}
 use Rattle.tree_server.proofs.Zipping.{Zips, Both, zips_one, zips_append, zips_map, zips_filter, zips_filter_map, any_agree, length_zips, same_zips, both_cond, both_none, choose, ands_agree}
-use Rattle.sealed_machine.proofs.Sealing.{seals_agree, under}
+use Rattle.sealed_machine.proofs.SealedPaths.{seals_agree, under}
 
 module _ (k : EntryKeys) (w : AreKeys k.names) where
   node_at : (p r : Path) (n m : Node) → p ≡ r → SealedNode k p n m → SealedNode k r n m
@@ -94,8 +94,8 @@ module _ (k : EntryKeys) (w : AreKeys k.names) where
   same_size None = refl
   same_size (Some c) = refl
 
-  pub accepted_size : (key payload : List ℕ) (p : Path) (d : Option (List ℕ)) → Accepts key p payload d → length payload ≡ size_of d + 61
-  accepted_size key payload p d a = omega (arith, opened_size a.opened, digest_size p a.sequential a.digest a.for_path, same_size d, length-append a.digest (content_of d))
+  pub accepted_size : (keys : List (List ℕ)) (payload : List ℕ) (p : Path) (d : Option (List ℕ)) → Accepts keys p payload d → length payload ≡ size_of d + 61
+  accepted_size keys payload p d a = omega (arith, opened_size a.opened, digest_size p a.sequential a.digest a.for_path, same_size d, length-append a.digest (content_of d))
 
   longer : (x y : ℕ) → x ≡ y + 61 → (pos 61 ≤ℤ pos x) × (pos y ≡ pos x -ℤ pos 61)
   longer x y e = (omega (arith, ints, e), omega (arith, ints, e))

@@ -16,8 +16,8 @@ use Rattle.tree_state.specs.Plain.{plain}
 use Rattle.tree_state.specs.Commands.{Change}
 use Rattle.tree_state.specs.Changes.{Trial, failed, done, Naming, Effect, Effects, no_effects, after_effect, or_failed, perform_all, all_deleted, runtime_inconsistency}
 use Rattle.tree_server.proofs.Zipping.{Zips, zips_append}
-use Rattle.sealed_machine.proofs.SimWords.{Seals, Sim}
-use Rattle.sealed_machine.proofs.Effects.{Alike, VeilsChange, op_asked, OpensOutput, SealedEffect, SealedEffects, perform_sim, deleted_sim}
+use Rattle.sealed_machine.proofs.SealedStates.{Seals, IsSealedState}
+use Rattle.sealed_machine.proofs.SealedChanges.{Alike, VeilsChange, op_asked, OpensOutput, SealedEffect, SealedEffects, perform_sealed, deleted_sealed}
 
 -- the codes of a multi that failed, one for each change, or what was done
 unfoldable pub AlikeAll : EntryKeys → List Change → Trial (List ℤ) Effects → Trial (List ℤ) Effects → Type 0
@@ -59,7 +59,7 @@ module _ (k : EntryKeys) (w : AreKeys k.names) where
   or_failed_alike c cs ds (done a) (failed b) f g z h j = absurd h
   or_failed_alike c cs ds (done a) (done b) f g z h j = after_alike c cs a b (f a) (g b) h (j a b h)
 
-  nothing_done : (at : Moment) (s t : State) → Sim k s t → AlikeAll k [] (done (no_effects (record s { last = at.zxid }))) (done (no_effects (record t { last = at.zxid })))
+  nothing_done : (at : Moment) (s t : State) → IsSealedState k s t → AlikeAll k [] (done (no_effects (record s { last = at.zxid }))) (done (no_effects (record t { last = at.zxid })))
   unfolding AlikeAll no_effects ArePlainResults Zips
   nothing_done at s t h = record {
     state = record { nodes = h.nodes; apart = h.apart; sessions = h.sessions; watches = h.watches; greatest = h.greatest; last = refl };
@@ -67,23 +67,23 @@ module _ (k : EntryKeys) (w : AreKeys k.names) where
     events = tt;
   }
 
-  pub perform_all_sim : (naming : Naming) → IsNaming (IsSealedName k.names) naming → (at : Moment) (cs ds : List Change) (s t : State) → Zips (VeilsChange k) cs ds → Sim k s t
+  pub perform_all_sealed : (naming : Naming) → IsNaming (IsSealedName k.names) naming → (at : Moment) (cs ds : List Change) (s t : State) → Zips (VeilsChange k) cs ds → IsSealedState k s t
       → AlikeAll k cs (perform_all plain at s cs) (perform_all naming at t ds)
   unfolding perform_all Zips
-  perform_all_sim naming names at [] [] s t z h = nothing_done at s t h
-  perform_all_sim naming names at [] (d ∷ ds) s t z h = absurd z
-  perform_all_sim naming names at (c ∷ cs) [] s t z h = absurd z
-  perform_all_sim naming names at (c ∷ cs) (d ∷ ds) s t z h =
-      or_failed_alike c cs ds _ _ _ _ z.1 (perform_sim k w naming names at s t c d z.0 h) (λ e f x. perform_all_sim naming names at cs ds e.state f.state z.1 x.state)
+  perform_all_sealed naming names at [] [] s t z h = nothing_done at s t h
+  perform_all_sealed naming names at [] (d ∷ ds) s t z h = absurd z
+  perform_all_sealed naming names at (c ∷ cs) [] s t z h = absurd z
+  perform_all_sealed naming names at (c ∷ cs) (d ∷ ds) s t z h =
+      or_failed_alike c cs ds _ _ _ _ z.1 (perform_sealed k w naming names at s t c d z.0 h) (λ e f x. perform_all_sealed naming names at cs ds e.state f.state z.1 x.state)
 
-  pub all_deleted_sim : (z : ℤ) (ps qs : List Path) (s t : State) → Zips (Seals k.names) ps qs → Sim k s t → SealedEffects k [] (all_deleted z ps s) (all_deleted z qs t)
+  pub all_deleted_sealed : (z : ℤ) (ps qs : List Path) (s t : State) → Zips (Seals k.names) ps qs → IsSealedState k s t → SealedEffects k [] (all_deleted z ps s) (all_deleted z qs t)
   unfolding all_deleted no_effects Zips ArePlainResults
-  all_deleted_sim z [] [] s t x h = record { state = record { nodes = h.nodes; apart = h.apart; sessions = h.sessions; watches = h.watches; greatest = h.greatest; last = refl }; results = tt; events = tt }
-  all_deleted_sim z [] (q ∷ qs) s t x h = absurd x
-  all_deleted_sim z (p ∷ ps) [] s t x h = absurd x
-  all_deleted_sim z (p ∷ ps) (q ∷ qs) s t x h =
-      let e = deleted_sim k w z (pos 0) p q s t x.0 h in
-      let m = all_deleted_sim z ps qs _ _ x.1 e.state in
+  all_deleted_sealed z [] [] s t x h = record { state = record { nodes = h.nodes; apart = h.apart; sessions = h.sessions; watches = h.watches; greatest = h.greatest; last = refl }; results = tt; events = tt }
+  all_deleted_sealed z [] (q ∷ qs) s t x h = absurd x
+  all_deleted_sealed z (p ∷ ps) [] s t x h = absurd x
+  all_deleted_sealed z (p ∷ ps) (q ∷ qs) s t x h =
+      let e = deleted_sealed k w z (pos 0) p q s t x.0 h in
+      let m = all_deleted_sealed z ps qs _ _ x.1 e.state in
       record { state = m.state; results = tt; events = zips_append (OpensOutput k.names) _ _ _ _ e.events m.events }
 
 -- ---- the results of a multi
@@ -105,6 +105,7 @@ all_failed k (d ∷ cs) (c ∷ codes) e = failed_results k (d ∷ cs) (c ∷ cod
 no_error : (k : Keys) (op : AskedOp) (code : ℤ) (a : OpResult) → IsPlainResult k false op (results.Error code) a → ⊥
 unfolding IsPlainResult
 no_error k (op_asks.Create path q) code a h = h
+no_error k (op_asks.Create2 path q) code a h = h
 no_error k op_asks.Delete code a h = h
 no_error k (op_asks.SetContent path) code a h = h
 no_error k op_asks.Check code a h = h
@@ -114,6 +115,7 @@ unfolding ArePlainResults
 all_done k [] [] [] h = h
 all_done k (op ∷ ops) (results.Error code ∷ stored) (p ∷ told) h = absurd (no_error k op code p h.0)
 all_done k (op ∷ ops) (results.Created text ∷ stored) (p ∷ told) h = h
+all_done k (op ∷ ops) (results.Created2 text stat ∷ stored) (p ∷ told) h = h
 all_done k (op ∷ ops) (results.Deleted ∷ stored) (p ∷ told) h = h
 all_done k (op ∷ ops) (results.Changed stat ∷ stored) (p ∷ told) h = h
 all_done k (op ∷ ops) (results.Checked ∷ stored) (p ∷ told) h = h

@@ -1,0 +1,43 @@
+-- Laws of the machine on both sides.
+use Rattle.std.specs.Prelude.{◌≡◌, ◌↔◌, ℕ, List, All}
+use Rattle.path_seal.specs.Sealed.{Keys, AreKeys}
+use Rattle.payload_seal.specs.declared.keys.EntryKeys.{EntryKeys}
+use Rattle.request_queue.specs.declared.asked.Asked.{Asked}
+use Rattle.request_rewrite.specs.Asks as kept
+use Rattle.request_rewrite.specs.Veil.{Veil}
+use Rattle.counter_enclave.specs.Enclave.{IsSealedName}
+use Rattle.zk_messages.specs.declared.request.Request.{Request}
+use Rattle.tree_state.specs.declared.message.Message.{Message}
+use Rattle.tree_state.specs.State.{start}
+use Rattle.tree_state.specs.Changes.{Naming}
+use Rattle.tree_state.specs.Commands.{Command, IsCommand}
+use Rattle.tree_state.specs.Plain.{plain}
+use Rattle.tree_state.specs.Step.{Act}
+use Rattle.tree_state.specs.Trees.{IsNaming}
+use Rattle.tree_server.specs.Follows.{Shown}
+use Rattle.tree_server.specs.Out.{out}
+use Rattle.tree_server.specs.Zips.{Zips}
+use Rattle.sealed_machine.specs.Veils.{IsIvOf, VeilsCommand, asked_of}
+use Rattle.sealed_machine.specs.Runs.{VeilsAct, InStep, Talks, all_asked}
+
+-- there is a naming with exactly the names of an enclave
+abbrev pub HasSealedNaming : Type 0
+HasSealedNaming = (k : Keys) → AreKeys k → (naming : Naming) × IsNaming (IsSealedName k) naming
+
+-- the veiled form of a request asks for the sealed form of what the request asks for
+abbrev pub VeilsWhatIsAsked : Type 0
+VeilsWhatIsAsked =
+    (k : EntryKeys) (ivs : List (List ℕ)) (r v : Request) (a b : Command) → AreKeys k.names → All (IsIvOf k.payloads) ivs
+    → Veil k ivs r v → IsCommand r a → IsCommand v b → VeilsCommand k a b
+
+-- what is kept of a request for its reply is what its command asks, and only that
+abbrev pub KeepsWhatIsAsked : Type 0
+KeepsWhatIsAsked = (r : Request) (a : Command) (asked : Asked) → IsCommand r a → kept.Asks r asked ↔ (asked ≡ asked_of a)
+
+-- where a store with the names of an enclave takes the sealed forms of some acts, its state stays the sealed form of the plain
+-- machine's; and what the plain machine sends to a connection stands message by message beside what the store tells it
+pub record StaysInStep : Type 0 where
+  pub states : (k : EntryKeys) (naming : Naming) (acts sealed_acts : List Act) → AreKeys k.names → IsNaming (IsSealedName k.names) naming
+      → Zips (VeilsAct k) acts sealed_acts → InStep k naming start start acts sealed_acts
+  pub messages : (k : EntryKeys) (naming : Naming) (acts sealed_acts : List Act) (c : ℕ) (told : List Message) → AreKeys k.names → IsNaming (IsSealedName k.names) naming
+      → Zips (VeilsAct k) acts sealed_acts → Shown (out naming sealed_acts c) told → Talks k (all_asked c start acts) (out plain acts c) told
