@@ -133,7 +133,7 @@ reached k boot c w r qs ms ns told hs s pulled waiting is talks quiet ran begun 
 as_long : (k : EntryKeys) (qs : List Question) (ms ns : List Message) → Talks k qs ms ns → length ms ≡ length ns
 as_long k qs ms ns silent = refl
 as_long k qs ms ns (told_event e f a ms' ns' i t) = ap suc (as_long k a ms' ns' t)
-as_long k qs ms ns (told_reply q r f a ms' ns' x z i t) = ap suc (as_long k a ms' ns' t)
+as_long k qs ms ns (told_reply q r f a ms' ns' x i t) = ap suc (as_long k a ms' ns' t)
 as_long k qs ms ns (told_session r a ms' ns' t) = ap suc (as_long k a ms' ns' t)
 
 empty_left : {A : Type 0} (xs : List A) → length xs ≡ 0 → xs ≡ []

@@ -161,7 +161,7 @@ pub came : (k : EntryKeys) (open_ : List Question) (plain left : List Message) (
 came k open_ plain left n rest silent e = absurd cc
 came k open_ plain left n rest (told_event a b qs ms ns i h) e =
     came_event a b ms (record { told_is = first_is (messages.Event b) n ns rest e; plain_is = refl; opens = i; talks = talks_on k qs ms (messages.Event b) n ns rest e h })
-came k open_ plain left n rest (told_reply q a b qs ms ns x z i h) e =
+came k open_ plain left n rest (told_reply q a b qs ms ns x i h) e =
     came_reply q a b qs ms (record { told_is = first_is (messages.Reply b) n ns rest e; plain_is = refl; open_is = refl; same_xid = x; admits = i; talks = talks_on k qs ms (messages.Reply b) n ns rest e h })
 came k open_ plain left n rest (told_session a qs ms ns h) e =
     came_session a ms (record { told_is = first_is (messages.Connected a) n ns rest e; plain_is = refl; talks = talks_on k qs ms (messages.Connected a) n ns rest e h })
