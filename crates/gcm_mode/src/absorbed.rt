@@ -12,8 +12,8 @@ use crate::key::GcmKey;
 /// behind them.
 ///
 /// Texts whose additional data begins alike share what is hashed once: copy the value where they
-/// part, and absorb the rest of each. It takes no memory, whatever the length. To what additional
-/// data it stands for, `IsAbsorbed` of `specs/Absorbed.antt` ties it.
+/// part, and absorb the rest of each. It takes no memory but its own. For
+/// which additional data it stands, `IsAbsorbed` of `specs/Absorbed.antt` says.
 #[derive(Clone, Copy)]
 pub struct Absorbed {
     pub(crate) hash: u128,

@@ -220,15 +220,20 @@ fn the_table_multiplies_as_the_definition_does(rt: HostRuntime) {
     }
 }
 
+// A text cut at a place, or at its end.
+fn parts(text: &[u8], cut: usize) -> (&[u8], &[u8]) {
+    text.split_at(cut.min(text.len()))
+}
+
 // The patterns of these lengths, sealed in two pieces, with additional data in two pieces.
 fn seals_in_pieces_alike(alloc: Global, text: usize, aad: usize, cut: usize) -> Result<bool, Fail> {
     let key = GcmKey::new(KEY);
     let plain = pattern(alloc, text, 1)?;
     let data = pattern(alloc, aad, 2)?;
-    let (first, second) = plain.as_slice().split_at(cut.min(text));
+    let (first, second) = parts(plain.as_slice(), cut);
     let mut pieces = Vec::new(alloc);
     seal_pieces(&key, &IV, data.as_slice(), first, second, &mut pieces)?;
-    let (front, back) = data.as_slice().split_at(cut.min(aad));
+    let (front, back) = parts(data.as_slice(), cut);
     let mut absorbed = Absorbed::new();
     absorbed.absorb(&key, front);
     absorbed.absorb(&key, back);
