@@ -88,7 +88,7 @@ fn request_in(alloc: Global, body: &str) -> Result<Request, Fail>
 // Under the first IVs of the connection.
 fn first_form(alloc: Global, body: &str) -> Result<(Request, Pending), Fail> {
     let keys = read_keys(&FILE)?;
-    let mut ivs = IvSource::new(0, 0, 1);
+    let mut ivs = IvSource::new(keys.payloads.epoch(), 0, 1);
     let request = request_in(alloc, body)?;
     Ok(veil_request(alloc, &keys, &mut ivs, 7, 56, &request)?)
 }
@@ -191,7 +191,7 @@ fn a_sequential_create2_is_sealed_as_a_create(rt: HostRuntime) -> Result<(), Fai
 fn the_last_iv_seals_one_create_and_not_two(rt: HostRuntime) -> Result<(), Fail> {
     let alloc = rt.alloc();
     let keys = read_keys(&FILE)?;
-    let mut ivs = IvSource::starting(0, 0, 1, 4_294_967_295);
+    let mut ivs = IvSource::starting(keys.payloads.epoch(), 0, 1, 4_294_967_295);
     let two = request_in(alloc, TWO_CREATES)?;
     let spent = veil_request(alloc, &keys, &mut ivs, 1, 99, &two).err();
     assert_eq!(rt; spent, Some(NotVeiled::Spent));
@@ -206,7 +206,7 @@ fn the_last_iv_seals_one_create_and_not_two(rt: HostRuntime) -> Result<(), Fail>
 fn each_type_is_veiled(rt: HostRuntime) -> Result<(), Fail> {
     let alloc = rt.alloc();
     let keys = read_keys(&FILE)?;
-    let mut ivs = IvSource::starting(0, 0, 1, 4_294_967_290);
+    let mut ivs = IvSource::starting(keys.payloads.epoch(), 0, 1, 4_294_967_290);
     for body in EACH_TYPE {
         let request = request_in(alloc, body)?;
         let (veiled, pending) = veil_request(alloc, &keys, &mut ivs, 3, 99, &request)?;
