@@ -75,8 +75,7 @@ first_key file = ap (λ (key : List ℕ). key ∷ []) (ap (take 16) (drop-take 1
 of_first : (file : List ℕ) (n : ℕ) (p : List (List ℕ)) (y : List ℕ) (d : Option (List ℕ)) → length file ≡ 64 + 16 * n → epoch_of y ≡ 0 → Accepts (payload_keys file n) p y d ↔ Accepts (payload_keys (take 64 file) 0) p y d
 of_first file n p y d size first =
     let key : List ℕ = take 16 (drop 16 file) in
-    let lt : epoch_of y < length (key ∷ []) = omega (arith, first) in
-    (
+    let lt : epoch_of y < length (key ∷ []) = omega (arith, first) in (
       λ a. subst (λ (keys : List (List ℕ)). Accepts keys p y d) (sym (first_key file)) (accept_less (key ∷ []) (keys_in (drop 64 file) n) p y d lt a),
       λ a. accept_more (key ∷ []) (keys_in (drop 64 file) n) p y d (subst (λ (keys : List (List ℕ)). Accepts keys p y d) (first_key file) a),
     )

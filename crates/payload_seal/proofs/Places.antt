@@ -20,7 +20,7 @@ fill_next places keys epoch key few h =
       size = length-set places (epoch + 1) key ∙ h.size;
       front = take_more_set places (epoch + 1) key within ∙ ap (λ (l : List (List ℕ)). l ++ key ∷ []) h.front;
       rest =
-        drop-set-lt (epoch + 1 + 1) places (epoch + 1) key (omega arith) ∙ sym (drop-drop 1 (epoch + 1) places) ∙ ap (drop 1) h.rest ∙ one_less (255 - epoch) (replicate 16 0) ∙ ap (λ (n : ℕ). replicate n (replicate 16 0)) (omega arith);
+          drop-set-lt (epoch + 1 + 1) places (epoch + 1) key (omega arith) ∙ sym (drop-drop 1 (epoch + 1) places) ∙ ap (drop 1) h.rest ∙ one_less (255 - epoch) (replicate 16 0) ∙ ap (λ (n : ℕ). replicate n (replicate 16 0)) (omega arith);
     }
 
 pub holds_filled : (places keys : List (List ℕ)) (epoch : ℕ) (ready : List ℕ) → epoch < 256 → Fills places epoch keys → ready ≡ key_of places epoch → HoldsKeys places epoch ready

@@ -488,6 +488,16 @@ made_means h mid after made at s text p m up d e w means mo t parent vacant join
 abbrev pub TellsCreation : Held → Bool → List ℕ → OpResult → Type 0
 TellsCreation h w made result = (s : State) (p : Path) (node : Node) → Means h s → IsTextOf made p → find s.nodes p ≡ Some node → result ≡ creation_result w s.nodes p node
 
+pub tells_path : (w : Bool) (made : List ℕ) (es : List Place) (p : Path) (node : Node) → w ≡ false → made ≡ text_of p → results.Created made ≡ creation_result w es p node
+unfolding creation_result
+tells_path false made es p node e t = ap results.Created t
+tells_path true made es p node e t = absurd cc
+
+pub tells_stat : (w : Bool) (made : List ℕ) (stat : Stat) (es : List Place) (p : Path) (node : Node) → w ≡ true → made ≡ text_of p → stat ≡ stat_of es p node → results.Created2 made stat ≡ creation_result w es p node
+unfolding creation_result
+tells_stat true made stat es p node e t s = cc
+tells_stat false made stat es p node e t s = absurd cc
+
 created_so : (naming : Naming) (at : Moment) (s : State) (p : Path) (n m : List ℕ) (d : Option (List ℕ)) (q e w : Bool) (up : Node) (after : Held) (before sent : Vec Output Global) (made : List ℕ) (result : OpResult) → IsParent s p up
     → name_for naming p n q up ≡ Some m → is_there s.nodes (m ∷ p) ≡ false → IsTextOf made (m ∷ p) → sent.items ≡ before.items ++ creation_events p m s.watches
     → Means after (created at p m (record { content = d; numbers = fresh_numbers at e }) w s).state → TellsCreation after w made result → Performs s (perform naming at s (create p n d q e w)) after before sent (Ok result)

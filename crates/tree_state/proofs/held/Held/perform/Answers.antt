@@ -15,8 +15,8 @@ make-requires g c =
     let short = short_creation c.args.op.now false c.in-Create.asked c.in-Create.is c.requires.short in
     record { path = short.0; content = short.1 }
 
-pub make-in-Create2-requires : goal.make-in-Create2-requires
-make-in-Create2-requires g c =
+pub make-requires-in-Create2 : goal.make-requires-in-Create2
+make-requires-in-Create2 g c =
     let short = short_creation c.args.op.now true c.in-Create2.asked c.in-Create2.is c.requires.short in
     record { path = short.0; content = short.1 }
 
