@@ -13,6 +13,8 @@ pub mod Connections
 pub mod SealedTexts
 pub mod SealedRequests
 pub mod KeptRequests
+pub mod ShorterValues
+pub mod ShorterNames
 pub mod NoTrace
 pub mod FirstAnswers
 pub mod EachLaw
