@@ -15,6 +15,7 @@ pub mod SealedRequests
 pub mod KeptRequests
 pub mod ShorterValues
 pub mod ShorterNames
+pub mod ShorterReplies
 pub mod NoTrace
 pub mod FirstAnswers
 pub mod EachLaw
