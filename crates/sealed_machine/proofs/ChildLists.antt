@@ -177,7 +177,7 @@ one_of_at n [] h = absurd h
 one_of_at n (x ∷ xs) (inl e) = (0, omega arith, sym e)
 one_of_at n (x ∷ xs) (inr h) = let r = one_of_at n xs h in (suc r.0, omega (arith, r.1), r.2)
 
-at_one_of : (xs : List (List ℕ)) (i : ℕ) → i < length xs → IsOneOf (name_at xs i) xs
+pub at_one_of : (xs : List (List ℕ)) (i : ℕ) → i < length xs → IsOneOf (name_at xs i) xs
 at_one_of [] i lt = omega (arith, lt)
 at_one_of (x ∷ xs) zero lt = inl refl
 at_one_of (x ∷ xs) (suc i) lt = inr (at_one_of xs i (omega (arith, lt)))

@@ -13,6 +13,9 @@ pub mod Connections
 pub mod SealedTexts
 pub mod SealedRequests
 pub mod KeptRequests
+pub mod ShorterValues
+pub mod ShorterNames
+pub mod ShorterReplies
 pub mod NoTrace
 pub mod FirstAnswers
 pub mod EachLaw

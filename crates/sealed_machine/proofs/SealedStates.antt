@@ -18,6 +18,15 @@ pub use Rattle.sealed_machine.specs.Seals.{Seals, SealsName, SealedNode, SealedP
 use Rattle.tree_server.proofs.Zipping.{Zips, Both, zips_one, zips_append, zips_map, zips_filter, zips_filter_map, any_agree, length_zips, same_zips, both_cond, both_none, choose, ands_agree}
 use Rattle.sealed_machine.proofs.SealedPaths.{seals_agree, under}
 
+-- a payload has 61 bytes more than its content
+same_size : (d : Option (List ℕ)) → length (content_of d) ≡ size_of d
+unfolding size_of
+same_size None = refl
+same_size (Some c) = refl
+
+pub accepted_size : (keys : List (List ℕ)) (payload : List ℕ) (p : Path) (d : Option (List ℕ)) → Accepts keys p payload d → length payload ≡ size_of d + 61
+accepted_size keys payload p d a = omega (arith, opened_size a.opened, digest_size p a.sequential a.digest a.for_path, same_size d, length-append a.digest (content_of d))
+
 module _ (k : EntryKeys) (w : AreKeys k.names) where
   node_at : (p r : Path) (n m : Node) → p ≡ r → SealedNode k p n m → SealedNode k r n m
   node_at p r n m e h = subst (λ (x : Path). SealedNode k x n m) e h
@@ -88,14 +97,6 @@ module _ (k : EntryKeys) (w : AreKeys k.names) where
   ephemerals_zip session es fs h = zips_filter_map (SealedPlace k) (Seals k.names) (path_if_owned session) (path_if_owned session) (owned session) es fs h
 
   -- ---- Stats
-
-  same_size : (d : Option (List ℕ)) → length (content_of d) ≡ size_of d
-  unfolding size_of
-  same_size None = refl
-  same_size (Some c) = refl
-
-  pub accepted_size : (keys : List (List ℕ)) (payload : List ℕ) (p : Path) (d : Option (List ℕ)) → Accepts keys p payload d → length payload ≡ size_of d + 61
-  accepted_size keys payload p d a = omega (arith, opened_size a.opened, digest_size p a.sequential a.digest a.for_path, same_size d, length-append a.digest (content_of d))
 
   longer : (x y : ℕ) → x ≡ y + 61 → (pos 61 ≤ℤ pos x) × (pos y ≡ pos x -ℤ pos 61)
   longer x y e = (omega (arith, ints, e), omega (arith, ints, e))

@@ -1,5 +1,5 @@
 -- Laws of the machine on both sides.
-use Rattle.std.specs.Prelude.{◌≡◌, ◌↔◌, ℕ, List, All}
+use Rattle.std.specs.Prelude.{◌≡◌, ◌≤◌, ◌↔◌, ℕ, List, length, All}
 use Rattle.path_seal.specs.Sealed.{Keys, AreKeys}
 use Rattle.payload_seal.specs.declared.keys.EntryKeys.{EntryKeys}
 use Rattle.request_queue.specs.declared.asked.Asked.{Asked}
@@ -18,7 +18,8 @@ use Rattle.tree_server.specs.Follows.{Shown}
 use Rattle.tree_server.specs.Out.{out}
 use Rattle.tree_server.specs.Zips.{Zips}
 use Rattle.sealed_machine.specs.Veils.{IsIvOf, VeilsCommand, asked_of}
-use Rattle.sealed_machine.specs.Runs.{VeilsAct, InStep, Talks, all_asked}
+use Rattle.tree_server.specs.Messages.{Messages}
+use Rattle.sealed_machine.specs.Runs.{VeilsAct, InStep, Question, AreAnswerable, Talks, all_asked}
 
 -- there is a naming with exactly the names of an enclave
 abbrev pub HasSealedNaming : Type 0
@@ -41,3 +42,9 @@ pub record StaysInStep : Type 0 where
       → Zips (VeilsAct k) acts sealed_acts → InStep k naming start start acts sealed_acts
   pub messages : (k : EntryKeys) (naming : Naming) (acts sealed_acts : List Act) (c : ℕ) (told : List Message) → AreKeys k.names → IsNaming (IsSealedName k.names) naming
       → Zips (VeilsAct k) acts sealed_acts → Shown (out naming sealed_acts c) told → Talks k (all_asked c start acts) (out plain acts c) told
+
+-- where the store's messages can be written, a frame each, so can the plain ones, each in a frame that is no longer
+abbrev pub FitsPlain : Type 0
+FitsPlain =
+    (k : EntryKeys) (asked : List Question) (ms told : List Message) (bytes : List ℕ) → AreKeys k.names → AreAnswerable asked
+    → Talks k asked ms told → Messages told bytes → (plain_bytes : List ℕ) × Messages ms plain_bytes × (length plain_bytes ≤ length bytes)

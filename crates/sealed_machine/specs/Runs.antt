@@ -1,5 +1,7 @@
 -- Runs on both sides, act by act, and what they send to one connection.
-use Rattle.std.specs.Prelude.{◌≡◌, ℕ, ℤ, List, [], ◌∷◌, ◌++◌, ◌==◌, Bool, true, false, Option, Some, None}
+use Rattle.std.specs.Int.{w32}
+use Rattle.std.specs.Int.RustNames.{FitsSigned}
+use Rattle.std.specs.Prelude.{◌≡◌, ◌≢◌, ℕ, ℤ, pos, List, [], ◌∷◌, ◌++◌, ◌==◌, Bool, true, false, Option, Some, None}
 use Rattle.payload_seal.specs.declared.keys.EntryKeys.{EntryKeys}
 use Rattle.request_queue.specs.declared.asked.Asked.{Asked}
 use Rattle.request_queue.specs.declared.asked.Asked.TheVariants as asks
@@ -44,6 +46,15 @@ InStep k naming s t (f ∷ fs) (g ∷ gs) = SealedNext k (act_asked f) (step pla
 pub record Question : Type 0 where
   pub xid : ℤ
   pub asked : Asked
+
+-- a refusal's code can stand in a reply: it is an int, and not 0
+unfoldable pub IsAnswerable : Asked → Type 0
+IsAnswerable (asks.Refused code) = (code ≢ pos 0) × FitsSigned w32 code
+IsAnswerable asked = Unit {0}
+
+unfoldable pub AreAnswerable : List Question → Type 0
+AreAnswerable [] = Unit {0}
+AreAnswerable (q ∷ questions) = IsAnswerable q.asked × AreAnswerable questions
 
 unfoldable pub asked_if : Bool → Question → List Question
 asked_if true q = q ∷ []
