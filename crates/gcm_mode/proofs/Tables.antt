@@ -1,12 +1,11 @@
 -- The product of two blocks, eight coefficients at once.
-use Rattle.std.proofs.Common.{◌≡◌, ℕ, zero, suc, ◌+◌, ◌*◌, ◌/◌, ◌%◌, ◌-◌, ◌^◌, ◌<◌, ◌≤◌, ◌==◌, Bool, true, false, cond, List, [], ◌∷◌, ◌++◌, length, take, replicate, slice_index, set, get_or, bit_and, bit_xor, refl, sym, ap, ◌∙◌, arith, add-one, inl, inr, eq-eqb}
-use Rattle.std.proofs.lemmas.List.{length-append, take_all, take_more_set, get_or_push, get_or_append_left}
-use Rattle.std.proofs.lemmas.Bool.{cases_lt, cases_eq}
+use Rattle.std.proofs.Common.{◌≡◌, ℕ, zero, suc, ◌+◌, ◌*◌, ◌/◌, ◌%◌, ◌^◌, ◌<◌, ◌==◌, Bool, true, false, cond, List, [], ◌∷◌, ◌++◌, length, take, replicate, slice_index, set, bit_and, bit_xor, refl, sym, ap, ◌∙◌, arith, inl, inr}
+use Rattle.std.proofs.lemmas.List.{length-append, take_more_set, get_or_push, get_or_append_left}
+use Rattle.std.proofs.lemmas.Bool.{cases_lt}
 use Rattle.std.proofs.lemmas.Nat.{and_mask, xor_lt, shr-shr}
-use Rattle.std.specs.Int.{bit_at}
 use Rattle.std.proofs.Math.Nat.{div-add-mod}
 use lib.Bits.{xor_shifted}
-use Rattle.aes_block.specs.Polynomial.{plus, add, product, less_modulus, remainder}
+use Rattle.aes_block.specs.Polynomial.{add, product, less_modulus, remainder}
 use Rattle.aes_block.proofs.Bytes.{all_below, all_same}
 use Rattle.aes_block.proofs.Remainder.{add_comm, add_assoc, add-zeros, length-remainder, length-less_modulus, less_modulus-add, remainder-product}
 use Rattle.gcm_mode.specs.declared.field.TheConstants.{REDUCTION}

@@ -1,4 +1,4 @@
-use Rattle.std.proofs.Common.{ap, ◌∙◌, refl, arith}
+use Rattle.std.proofs.Common.{refl, arith}
 use Rattle.gcm_mode.proofs.Absorbing.{stays_open, fills}
 use Rattle.gcm_mode.proofs.absorbed.Absorbed.absorb.Goals as goal
 

@@ -1,4 +1,4 @@
-use Rattle.std.proofs.Common.{◌≡◌, ◌<◌, ◌/◌, ◌%◌, ◌^◌, ℕ, slice_index, bit_and, bit_xor, ap, ◌∙◌, refl, rules, arith}
+use Rattle.std.proofs.Common.{◌<◌, ◌/◌, ◌%◌, ◌^◌, ℕ, slice_index, bit_and, ap, ◌∙◌, refl, rules, arith}
 use Rattle.std.proofs.lemmas.Nat.{xor_lt}
 use Rattle.gcm_mode.specs.Ghash.{times}
 use Rattle.gcm_mode.proofs.Product.{none_yet}
