@@ -16,6 +16,8 @@ pub mod KeptRequests
 pub mod ShorterValues
 pub mod ShorterNames
 pub mod ShorterReplies
+pub mod RefusalCodes
+pub mod AnswersFit
 pub mod NoTrace
 pub mod FirstAnswers
 pub mod EachLaw

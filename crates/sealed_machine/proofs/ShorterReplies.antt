@@ -36,7 +36,6 @@ use Rattle.tree_state.specs.declared.message.Message.{Message}
 use Rattle.tree_state.specs.declared.message.Message.TheVariants as messages
 use Rattle.tree_state.specs.Nodes.{Path}
 use Rattle.tree_server.specs.Messages.{SpellsMessage, Messages}
-use Rattle.sealed_machine.specs.Laws.{FitsPlain}
 use Rattle.sealed_machine.specs.Runs.{Question, IsAnswerable, AreAnswerable, Talks, silent, told_event, told_reply, told_session}
 use Rattle.sealed_machine.proofs.ShorterValues.{IsWritten, Shrinks, shrinks_same, shrinks_pair, shrinks_path, shrinks_stat, shrinks_node}
 use Rattle.sealed_machine.proofs.ShorterNames.{shrinks_list}
@@ -236,5 +235,5 @@ all_written k w asked ms told bytes a (told_reply q r f asked' ms' ns' x i h) (b
 all_written k w asked ms told bytes a (told_session r asked' ms' ns' h) (body, more, one, fits, cut, rest) =
     one_more (messages.Connected r) ms' body more bytes fits cut (record { bytes = body; is = one; within = omega arith }) (all_written k w asked' ms' ns' more a h rest)
 
-pub fits_plain : FitsPlain
+pub fits_plain : (k : EntryKeys) (asked : List Question) (ms told : List Message) (bytes : List ℕ) → AreKeys k.names → AreAnswerable asked → Talks k asked ms told → Messages told bytes → (plain_bytes : List ℕ) × Messages ms plain_bytes × (length plain_bytes ≤ length bytes)
 fits_plain k asked ms told bytes w a h s = let r = all_written k w asked ms told bytes a h s in (r.bytes, r.spelled, r.within)
