@@ -3,7 +3,6 @@ use Rattle.std.proofs.Common.{◌≡◌, ℕ, zero, suc, ◌+◌, ◌*◌, ◌/�
 use Rattle.std.proofs.lemmas.Bool.{and_parts, cases_lt, eqb-true}
 use Rattle.aes_block.specs.Polynomial.{remainder}
 use Rattle.aes_block.specs.Aes.{times, inverse, sub_byte, x_to}
-use Rattle.aes_block.specs.declared.field.TheConstants.{REDUCTION}
 use Rattle.aes_block.specs.declared.sbox.TheConstants.{SBOX}
 use Rattle.aes_block.specs.declared.schedule.TheConstants.{ROUND_CONSTANTS}
 
@@ -27,14 +26,17 @@ all_below_at p (suc n) k h lt =
 pub all_same : (f g : ℕ → ℕ) (n k : ℕ) → all_below (λ b. f b == g b) n ≡ true → k < n → f k ≡ g k
 all_same f g n k all lt = eqb-true (f k) (g k) (all_below_at (λ b. f b == g b) n k all lt)
 
-doubled : ℕ → ℕ
-doubled b = bit_xor (bit_and b 127 * 2 % 256) (b / 128 * REDUCTION)
+unfoldable pub doubled : ℕ → ℕ
+doubled b = bit_xor (bit_and b 127 * 2 % 256) (b / 128 * 0x1b)
 
 doubles : all_below (λ b. doubled b == times 2 b) 256 ≡ true
 unfolding times remainder doubled
 doubles = refl
 
-pub double_at : (b : ℕ) → b < 256 → bit_xor (bit_and b 127 * 2 % 256) (b / 128 * REDUCTION) ≡ times 2 b
+pub doubled_at : (b : ℕ) → b < 256 → doubled b ≡ times 2 b
+doubled_at b lt = all_same doubled (times 2) 256 b doubles lt
+
+pub double_at : (b : ℕ) → b < 256 → bit_xor (bit_and b 127 * 2 % 256) (b / 128 * 0x1b) ≡ times 2 b
 unfolding doubled
 double_at b lt = all_same doubled (times 2) 256 b doubles lt
 

@@ -51,7 +51,7 @@ number-lt (c ∷ p) =
     let next : 2 ^ suc (length p) ≡ 2 * 2 ^ length p = pow-succ' 2 (length p) in
     elim c as (λ b. cond b 1 0 + 2 * number p < 2 ^ suc (length p)) [ true ↦ omega (arith, number-lt p, next) | false ↦ omega (arith, number-lt p, next) ]
 
-times-lt : (a b : ℕ) → times a b < 256
+pub times-lt : (a b : ℕ) → times a b < 256
 unfolding times
 times-lt a b =
     let p : List Bool = remainder (low_bits 8 0x1b) (product (low_bits 8 a) (low_bits 8 b)) in
@@ -62,7 +62,7 @@ x_to-lt : (n : ℕ) → x_to n < 256
 x_to-lt zero = omega arith
 x_to-lt (suc n) = times-lt 2 (x_to n)
 
-sub_byte-lt : (a : ℕ) → sub_byte a < 256
+pub sub_byte-lt : (a : ℕ) → sub_byte a < 256
 unfolding sub_byte
 sub_byte-lt a = omega arith
 

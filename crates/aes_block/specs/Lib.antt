@@ -1,3 +1,4 @@
 pub mod Polynomial
 pub mod Aes
+pub mod Columns
 pub mod Laws

@@ -1,32 +1,36 @@
 //! A key with its round keys.
 
 ghost use Rattle.std.specs.Prelude.{◌≡◌};
-ghost use Rattle.aes_block.specs.Aes.{Aes, expanded};
+ghost use Rattle.aes_block.specs.Aes.{Aes};
 
-use crate::round::{add_round_key, last_round, middle_round};
-use crate::schedule::next_word;
+use crate::schedule::{expand, words};
+use crate::state::{first_state, last_round, middle_round};
 use std::marker::Model;
 
 /// A key of 16 bytes, which is what contracts see of it.
 ///
-/// The round keys are computed once, by [`Key::new`]. There is no `Debug`: it would print the key.
+/// The round keys are computed once, by [`Key::new`], and kept as words. There is no `Debug`: it
+/// would print the key.
 #[derive(Clone, Copy)]
 pub struct Key {
+    key: [u8; 16],
     // the 44 words of the key expansion
-    words: [u8; 176],
+    words: [u32; 44],
 }
 
 impl Model for Key {
-    ghost use Rattle.std.specs.Prelude.{◌≡◌, ℕ, List, take};
-    ghost use Rattle.aes_block.specs.Aes.{expanded};
+    ghost use Rattle.std.specs.Prelude.{◌≡◌, ◌<◌, ◌*◌, ℕ, List};
+    ghost use Rattle.aes_block.specs.Aes.{expanded, round_key};
+    ghost use Rattle.aes_block.specs.Columns.{bytes_from, words_of};
 
     ghost Value = { List ℕ };
 
-    ghost view = { λ k. take 16 k.words };
+    ghost view = { λ k. k.key };
 
-    ghost invariant = { λ k. k.words ≡ expanded (take 16 k.words) 40 };
+    ghost invariant = { λ k. (k.words ≡ words_of (expanded k.key 40) 44)
+        × ((n : ℕ) → n < 11 → bytes_from k.words (4 * n) ≡ round_key (expanded k.key 40) n) };
 
-    ghost inverse = { λ v. record { words = expanded v 40 } };
+    ghost inverse = { λ v. record { key = v; words = words_of (expanded v 40) 44 } };
 }
 
 impl Key {
@@ -34,20 +38,18 @@ impl Key {
     pub fn new(bytes: [u8; 16]) -> Key
         ensures { result ≡ bytes }
     {
-        let mut words = [0; 176];
-        words[..16].copy_from_slice(&bytes);
-        for i in 4..44 {
-            let word = next_word(&words, i);
-            words[4 * i..4 * i + 4].copy_from_slice(&word);
-        }
-        Key { words }
+        let words = words(&expand(&bytes));
+        Key { key: bytes, words }
     }
 
     /// The block enciphered under this key (FIPS 197, section 5.1).
+    ///
+    /// It makes nothing that [`Key::new`] could have made. Each round before the last reads 16 entries
+    /// of the tables of `tables`, 4 KiB together, at places that depend on the key and the block.
     pub fn encrypt(&self, block: [u8; 16]) -> [u8; 16]
         ensures { result ≡ Aes self.now block }
     {
-        let mut state = add_round_key(block, &self.words, 0);
+        let mut state = first_state(block, &self.words);
         for n in 0..9 {
             let next = middle_round(state, &self.words, n + 1);
             state = next;

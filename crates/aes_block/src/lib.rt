@@ -5,18 +5,23 @@
 //! on no other.
 //!
 //! Read [`Key::new`] and [`Key::encrypt`] first: `encrypt` is `Aes`, for every key and block. Below
-//! them `round` has the steps of a round, `schedule` the key expansion, and `field` and `sbox` the
-//! operations on bytes. Nothing is said of the time that a call takes, which depends on the data
-//! through the table of `sbox`.
+//! them `schedule` has the key expansion, `state` the rounds on the four columns of a state, `tables`
+//! SubBytes with MixColumns as four tables, and `sbox` SubBytes. Tests compare them with `round`,
+//! the steps of a round as the standard writes them. Nothing is said of the time that a call takes,
+//! which depends on the key and the data through the tables.
 #![tactic(auto)]
 
 ghost use Rattle.aes_block.specs.Laws.{EnciphersToBlocks, InverseIsInverse, RemainderIsRemainder};
 
+#[cfg(test)]
 mod field;
 mod key;
+#[cfg(test)]
 mod round;
 mod sbox;
 mod schedule;
+mod state;
+mod tables;
 
 pub use key::Key;
 

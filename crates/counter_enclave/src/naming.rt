@@ -1,13 +1,13 @@
 //! The name of a sealed stem and a number.
 
-ghost use Rattle.std.specs.Prelude.{◌≡◌, ℕ, List, [], pos, ◌≤ℤ◌, ◌≤◌, length, All, IfOk, IfSome, IfNone, MatchOption, unsigned_abs};
-ghost use Rattle.zk_path.specs.Paths.{HasNoSlash, text_of};
-ghost use Rattle.zk_path.specs.Numbers.{numbered, IsPlainName};
-ghost use Rattle.path_seal.specs.Sealed.{OpensStem};
+ghost use Rattle.std.specs.Prelude.{◌≡◌, ℕ, List, ◌∷◌, ◌++◌, pos, ◌≤ℤ◌, ◌≤◌, ◌^◌, length, IfOk, IfSome, IfNone, unsigned_abs};
+ghost use Rattle.zk_path.specs.Paths.{text_of};
+ghost use Rattle.zk_path.specs.Numbers.{IsPlainName};
+ghost use Rattle.path_seal.specs.Sealed.{SealName, OpensStem};
 ghost use Rattle.counter_enclave.specs.Enclave.{IsSealedName};
 
 use jute_core::{Memory, Text};
-use path_seal::{NameKeys, open_stem, seal_path};
+use path_seal::{NameKeys, NamesUnder, open_stem};
 use std::alloc::Global;
 use zk_path::{Numberer, Path, PlainNumberer};
 
@@ -24,27 +24,28 @@ fn with_digits(alloc: Global, name: &str, number: i32) -> Result<Text, Memory>
     }
 }
 
-// The path of a stem with a number at its last component. None exactly for the root, which has none.
-#[tactic(auto, using(crate::proofs::Numbering::last_within, crate::proofs::Numbering::name_plain))]
-fn with_number(alloc: Global, stem: &Path, number: i32) -> Result<Option<Path>, Memory>
-    requires not_negative { pos 0 ≤ℤ number }
-    requires plain { All HasNoSlash stem.now }
-    requires short { length (text_of stem.now) ≤ 134217728 }
-    ensures { IfOk result (λ found. MatchOption found (stem.now ≡ []) (λ path. path ≡ numbered stem.now (unsigned_abs number))) }
+// The sealed text of a name under a path, behind the text that the path is sealed to.
+fn sealed_under(
+    alloc: Global,
+    keys: &NameKeys,
+    parent: &Path,
+    above: &str,
+    name: &str,
+) -> Result<Text, Memory>
+    requires parent { length (text_of parent.now) ≤ 2 ^ 28 }
+    requires name { length name.now ≤ 2 ^ 28 }
+    ensures { IfOk result (λ text. text ≡ above.now ++ 47 ∷ SealName keys.now parent.now name.now) }
 {
-    let Some(parent) = stem.parent()? else {
-        return Ok(None);
-    };
-    let Some(last) = stem.last() else {
-        return Ok(None);
-    };
-    let name = with_digits(alloc, last, number)?;
-    Ok(Some(parent.joined(name.as_str())?))
+    let mut text = String::from_str(alloc, above)?;
+    text.push('/')?;
+    NamesUnder::new(keys, parent).seal(alloc, keys, name, &mut text)?;
+    Ok(Text::of(text))
 }
 
 /// The sealed text of a stem's path with the number, for the sealed text of the stem. None exactly
 /// where no legal stem is sealed to the text.
-#[tactic(auto, using(crate::proofs::Numbering::stem_within, crate::proofs::Numbering::numbered_within))]
+///
+/// The whole stem is opened. Its last component alone is sealed again: what stands before it stays.
 pub(crate) fn sealed_name(
     alloc: Global,
     keys: &NameKeys,
@@ -58,11 +59,19 @@ pub(crate) fn sealed_name(
 {
     // The name's definition asks for it.
     keys.are_keys();
-    let Some(stem) = open_stem(alloc, keys, stem)? else {
+    let Some(plain) = open_stem(alloc, keys, stem)? else {
         return Ok(None);
     };
-    let Some(path) = with_number(alloc, &stem, number)? else {
+    let Some(parent) = plain.parent()? else {
         return Ok(None);
     };
-    Ok(Some(seal_path(alloc, keys, &path)?))
+    let Some(last) = plain.last() else {
+        return Ok(None);
+    };
+    let Some((above, _)) = stem.rsplit_once('/') else {
+        return Ok(None);
+    };
+    let name = with_digits(alloc, last, number)?;
+    let text = sealed_under(alloc, keys, &parent, above, name.as_str())?;
+    Ok(Some(text))
 }

@@ -2,8 +2,6 @@
 
 ghost use Rattle.std.specs.Prelude.{pos, ◌≤ℤ◌, ◌≤◌, length};
 
-mod over_a_tree;
-
 use super::*;
 use jute_core::Text;
 use path_seal::{NameKeys, seal_path};

@@ -1,3 +1,9 @@
 pub mod Reading
+pub mod Turns
 pub mod HandedUp
+pub mod HandedDown
+pub mod OwnIvs
+pub mod OneItem
+pub mod OneTurn
+pub mod OneStand
 pub mod SentItems

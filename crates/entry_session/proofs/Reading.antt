@@ -1,8 +1,8 @@
 -- What the bytes of a store's frame say: how they begin, and what they are read as.
-use Rattle.std.proofs.Common.{◌≡◌, ℕ, ℤ, pos, negsuc, ◌<◌, Bool, List, ◌++◌, Option, Some, None, length, refl, sym, ap, subst, ◌∙◌, arith, length-append, append_assoc}
+use Rattle.std.proofs.Common.{◌≡◌, ℕ, ℤ, pos, negsuc, ◌<◌, Bool, true, false, List, ◌++◌, Option, Some, None, length, refl, sym, ap, subst, ◌∙◌, arith, length-append, append_assoc}
 use Rattle.jute_core.specs.Jute.{Spells, int}
 use Rattle.jute_core.proofs.OneSpelling.{one_spelling}
-use Rattle.jute_core.proofs.WholeLemmas.{whole_or_refused}
+use Rattle.jute_core.proofs.WholeLemmas.{whole_or_refused, one_whole_refusal}
 use Rattle.jute_core.specs.declared.cursor.Reason.{Reason}
 use Rattle.zk_records.specs.Connect.{SpellsConnected, RefusedConnected, older_response, newer_response, older_response_fields, response_form, response_fields}
 use Rattle.zk_records.specs.Headers.{reply_header}
@@ -69,6 +69,9 @@ same_outcome shape other (outcomes.Children2 d p) b f g h = absurd f
 same_outcome shapes.Multi shapes.Multi (outcomes.Multi d) b f g h = h
 same_outcome shapes.Multi other (outcomes.Multi d) b f g h = absurd g
 same_outcome shape other (outcomes.Multi d) b f g h = absurd f
+same_outcome shapes.Created2 shapes.Created2 (outcomes.Created2 d p) b f g h = h
+same_outcome shapes.Created2 other (outcomes.Created2 d p) b f g h = absurd g
+same_outcome shape other (outcomes.Created2 d p) b f g h = absurd f
 
 pub is_reply : (shape : Shape) (r : Reply) (body : List ℕ) → HasShape shape r.outcome → SpellsReply shape r body → IsReply r body
 is_reply shape r body f h other g = record { header = h.header; rest = h.rest; head = h.head; tail = same_outcome shape other r.outcome h.rest f g h.tail; cut = h.cut }
@@ -87,3 +90,8 @@ at_form r body place reason (Some b) i h f = whole_or_refused newer_response (ol
 -- a response of the form that is asked for is not refused
 pub connected_or_refused : (r : ConnectResponse) (o : Option Bool) (body : List ℕ) (place : ℕ) (reason : Reason) → SpellsConnected r body → is_none r.read_only ≡ is_none o → RefusedConnected (is_none o) body place reason → ⊥
 connected_or_refused r o body place reason h e f = at_form r body place reason r.read_only refl h (subst (λ (b : Bool). RefusedConnected b body place reason) (sym e) f)
+
+-- and a refusal has one place and one reason
+pub one_connected_refusal : (older : Bool) (body : List ℕ) (p q : ℕ) (r s : Reason) → RefusedConnected older body p r → RefusedConnected older body q s → (p ≡ q) × (r ≡ s)
+one_connected_refusal true body p q r s f g = one_whole_refusal older_response body p q r s f g
+one_connected_refusal false body p q r s f g = one_whole_refusal newer_response body p q r s f g

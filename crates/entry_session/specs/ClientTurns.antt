@@ -1,5 +1,5 @@
 -- What a session does at a frame of its client.
-use Rattle.std.specs.Prelude.{◌≡◌, ℕ, ℤ, ◌+◌, ◌<◌, ◌≤◌, ◌^◌, List, [], ◌∷◌, ◌++◌, length, Bool, true, false}
+use Rattle.std.specs.Prelude.{◌≡◌, ℕ, ◌+◌, ◌-◌, ◌<◌, ◌≤◌, ◌^◌, List, [], ◌∷◌, ◌++◌, length, Bool, true, false}
 use Rattle.jute_core.specs.declared.cursor.Refusal.{Refusal}
 use Rattle.payload_seal.specs.Ivs.{Ivs}
 use Rattle.payload_seal.specs.declared.keys.EntryKeys.{EntryKeys}
@@ -26,9 +26,13 @@ VeilsItem k source n (items.Asks asked) v = v ≡ items.Asks asked
 VeilsItem k source n (items.Requests xid r) (items.Requests number v) = (number ≡ xid) × Veil k (ivs_from source n) r v
 VeilsItem k source n i v = ⊥
 
+-- new payloads are sealed under the key of this epoch
+abbrev pub greatest_epoch : EntryKeys → ℕ
+greatest_epoch k = length k.payloads - 1
+
 -- the source of the IVs of connection c in a boot, where so many payloads were sealed
-abbrev pub source_at : ℕ → ℕ → ℕ → Ivs
-source_at boot c sealed = record { boot = boot; connection = c; count = sealed }
+abbrev pub source_at : EntryKeys → ℕ → ℕ → ℕ → Ivs
+source_at k boot c sealed = record { epoch = greatest_epoch k; boot = boot; connection = c; count = sealed }
 
 -- the body is no item of the kind that may come: first a connect request, then requests
 unfoldable pub RefusedItem : Bool → List ℕ → Refusal → Type 0
@@ -46,5 +50,5 @@ pub data ClientTurn (k : EntryKeys) (boot c : ℕ) (old : Stand) (body : List �
   full_queue : (i : Item) → IsItem (is_first old.items) i body → (HasRoom old i (length body) → ⊥) → ClientTurn k boot c old body (ends old (QueueFull (weight old + weight_of (length body))))
   spent_ivs : (i : Item) (n : ℕ) → IsItem (is_first old.items) i body → HasRoom old i (length body) → PayloadsIn i n → 2 ^ 32 < old.sealed + n → ClientTurn k boot c old body (ends old IvSpent)
   handed_up : (i v : Item) (n : ℕ) (out : List ℕ) → IsItem (is_first old.items) i body → HasRoom old i (length body) → PayloadsIn i n → old.sealed + n ≤ 2 ^ 32
-      → VeilsItem k (source_at boot c old.sealed) n i v → IsItem (is_first old.items) v out
+      → VeilsItem k (source_at k boot c old.sealed) n i v → IsItem (is_first old.items) v out
       → ClientTurn k boot c old body (record old { items = old.items ++ i ∷ []; sizes = old.sizes ++ length body ∷ []; sealed = old.sealed + n; up = old.up ++ out ∷ [] })

@@ -1,10 +1,14 @@
 -- What holds of every session.
-use Rattle.std.specs.Prelude.{◌≡◌, ◌<◌, ◌^◌, ℕ, suc, List, length, Option, Some, None}
+use Rattle.std.specs.Prelude.{◌≡◌, ◌<◌, ◌^◌, ℕ, suc, List, [], ◌++◌, length, Option, Some, None}
 use Rattle.path_seal.specs.Sealed.{AreKeys}
 use Rattle.payload_seal.specs.Ivs.{payload_iv}
 use Rattle.payload_seal.specs.declared.keys.EntryKeys.{EntryKeys}
-use Rattle.entry_session.specs.Heard.{Heard, store_frames}
+use Rattle.zk_messages.specs.Sent.{Sent, client_limit}
+use Rattle.zk_messages.specs.declared.request.Item.{Item}
+use Rattle.entry_session.specs.Heard.{Heard, client_frames, store_frames, bad_of_client}
+use Rattle.entry_session.specs.Sides.{IsSide}
 use Rattle.entry_session.specs.Stands.{Stand}
+use Rattle.entry_session.specs.ClientTurns.{greatest_epoch}
 use Rattle.entry_session.specs.Runs.{Ran}
 use Rattle.entry_session.specs.Veiled.{Veiled}
 use Rattle.entry_session.specs.declared.ending.Ending.{Ending}
@@ -36,5 +40,17 @@ HandsDownOneForOne = (k : EntryKeys) (boot c : ℕ) (hs : List Heard) (s : Stand
 
 -- no two payloads of the sessions of one boot have one IV
 abbrev pub HaveOwnIvs : Type 0
-HaveOwnIvs = (k : EntryKeys) (boot : ℕ) (hs : ℕ → List Heard) (stand : ℕ → Stand) → ((c : ℕ) → Ran k boot c (hs c) (stand c)) → boot < 2 ^ 24
-    → (c d i j : ℕ) → c < 2 ^ 32 → d < 2 ^ 32 → i < (stand c).sealed → j < (stand d).sealed → payload_iv boot c i ≡ payload_iv boot d j → (c ≡ d) × (i ≡ j)
+HaveOwnIvs = (k : EntryKeys) (boot : ℕ) (hs : ℕ → List Heard) (stand : ℕ → Stand) → ((c : ℕ) → Ran k boot c (hs c) (stand c))
+    → (c d i j : ℕ) → c < 2 ^ 32 → d < 2 ^ 32 → i < (stand c).sealed → j < (stand d).sealed
+    → payload_iv (greatest_epoch k) boot c i ≡ payload_iv (greatest_epoch k) boot d j → (c ≡ d) × (i ≡ j)
+
+-- what a session kept are the first of these items, and all of them where it goes on and nothing is under way to it
+pub record TakesFirst (s : Stand) (under_way : List ℕ) (items : List Item) : Type 0 where
+  pub more : List Item
+  pub first : items ≡ s.items ++ more
+  pub all : s.ending ≡ None → under_way ≡ [] → s.items ≡ items
+
+-- so it is with the items that a client sent, of whose bytes the session took the first and others are under way
+abbrev pub TakesWhatWasSent : Type 0
+TakesWhatWasSent = (k : EntryKeys) (boot c : ℕ) (hs : List Heard) (s : Stand) (taken under_way : List ℕ) (items : List Item) → Ran k boot c hs s
+    → IsSide client_limit (client_frames hs) (bad_of_client hs) s.ending taken → Sent (taken ++ under_way) items → TakesFirst s under_way items

@@ -1,5 +1,5 @@
 -- Where a session stands.
-use Rattle.std.specs.Prelude.{ℕ, ◌+◌, ◌*◌, List, [], drop, max, sum_by, Option, Some, None}
+use Rattle.std.specs.Prelude.{ℕ, ◌+◌, List, [], drop, max, sum_by, Option, Some, None}
 use Rattle.zk_messages.specs.declared.request.Item.{Item}
 use Rattle.reply_rewrite.specs.declared.finding.Finding.{Finding}
 use Rattle.entry_session.specs.declared.ending.Ending.{Ending}

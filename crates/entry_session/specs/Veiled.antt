@@ -16,7 +16,7 @@ pub record IsVeiledTo (k : EntryKeys) (boot c sealed : ℕ) (i v : Item) (after 
   pub count : ℕ
   pub payloads : PayloadsIn i count
   pub within : sealed + count ≤ 2 ^ 32
-  pub veils : VeilsItem k (source_at boot c sealed) count i v
+  pub veils : VeilsItem k (source_at k boot c sealed) count i v
   pub after_is : after ≡ sealed + count
 
 -- where so many payloads were sealed before: item by item, up to the first one for which too few IVs are left

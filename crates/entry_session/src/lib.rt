@@ -2,11 +2,15 @@
 //!
 //! The definitions are in `specs/`: `Heard` (the frames of both sides, in the order in which they came), `Stands` (where a session stands),
 //! `ClientTurns` and `StoreTurns` (what it does at each frame), `Runs` (where what was heard leads), `Veiled` (what it hands up), and `Sides`
-//! (what was heard, beside the bytes of a side).
+//! (what was heard, beside the bytes of a side). `Laws` says what holds of every session; each law is the contract of a function.
 //!
 //! Read `Ending` first, then `specs/Runs.antt`.
 #![tactic(auto)]
 
 mod ending;
+mod laws;
 
 pub use ending::Ending;
+pub use laws::{
+    hands_down_one_for_one, hands_up_veiled, have_own_ivs, leads_to_one, takes_what_was_sent,
+};

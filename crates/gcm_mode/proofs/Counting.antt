@@ -1,7 +1,7 @@
 -- GCTR, block after block.
 use Rattle.std.proofs.Common.{◌≡◌, ℕ, zero, suc, ◌+◌, ◌-◌, ◌*◌, ◌%◌, ◌^◌, ◌<◌, ◌≤◌, min, List, [], ◌∷◌, ◌++◌, map, length, replicate, take, drop, get_or, bit_xor, refl, sym, ap, ◌∙◌, arith, add-one, inl, inr}
 use Rattle.std.proofs.lemmas.Bool.{cases_lt}
-use Rattle.std.proofs.lemmas.List.{append-nil, append_assoc, take_all, take_at, take-append-le, drop_at, length-take, length-drop, length-append}
+use Rattle.std.proofs.lemmas.List.{append-nil, append_assoc, take_all, take_at, take-append-le, drop_at, drop_all, drop-drop, length-take, length-drop, length-append}
 use Rattle.std.proofs.lemmas.List.FromFn.{fill_by_all}
 use Rattle.std.proofs.lemmas.Nat.{from_be_bytes-to_be_bytes_4}
 use Rattle.std.specs.List.{range_with_len}
@@ -66,9 +66,9 @@ take_min r size e = elim (cases_lt (length r) 16) [
       ap (λ (n : ℕ). take n r) s
 ]
 
-pub none_pushed : (was k b x : List ℕ) → was ≡ was ++ gctr_blocks k b x 0
+pub none_covered : (k b x : List ℕ) → x ≡ gctr_blocks k b x 0 ++ drop (16 * 0) x
 unfolding gctr_blocks
-none_pushed was k b x = sym (append-nil was)
+none_covered k b x = refl
 
 gctr_more : (k b x : List ℕ) (n : ℕ) → gctr_blocks k b x (n + 1) ≡ gctr_blocks k b x n ++ xor_bytes (take 16 (drop (16 * n) x)) (Aes k (counter b n))
 unfolding gctr_blocks
@@ -86,23 +86,6 @@ front_of_padded r size e =
     let within : size ≤ 16 = omega arith in
     let there : size ≤ length r = omega arith in
     take-take size 16 (r ++ replicate 16 0) within ∙ take-append-le size r (replicate 16 0) there ∙ take_min r size e
-
-pub block_pushed : (was now next k iv x padded cb m sealed : List ℕ) (n size : ℕ) → length iv ≡ 12 → n + 2 < 2 ^ 32
-    → now ≡ was ++ gctr_blocks k (inc32 (first_counter iv)) x n
-    → padded ≡ padded_block x n → size ≡ min (length x - 16 * n) 16
-    → cb ≡ iv ++ to_be_bytes w32 (n + 2) → m ≡ Aes k cb → sealed ≡ xor_bytes padded m → next ≡ now ++ take size sealed
-    → next ≡ was ++ gctr_blocks k (inc32 (first_counter iv)) x (n + 1)
-block_pushed was now next k iv x padded cb m sealed n size h fits held ep es ec em ex en =
-    let b : List ℕ = inc32 (first_counter iv) in
-    let rest : List ℕ = drop (16 * n) x in
-    let size_is : size ≡ min (length rest) 16 = es ∙ ap (λ (l : ℕ). min l 16) (sym (length-drop (16 * n) x)) in
-    let mask : m ≡ Aes k (counter b n) = em ∙ ap (Aes k) (ec ∙ sym (counter_is iv n h fits)) in
-    let part : take size padded ≡ take 16 rest = ap (take size) ep ∙ front_of_padded rest size size_is in
-    let front : take size sealed ≡ xor_bytes (take 16 rest) (Aes k (counter b n)) =
-    ap (take size) ex ∙ take-xor size padded m ∙ (λ i. xor_bytes (part i) (mask i)) in
-    en ∙ (λ i. held i ++ front i)
-    ∙ append_assoc was (gctr_blocks k b x n) (xor_bytes (take 16 rest) (Aes k (counter b n)))
-    ∙ ap (λ (l : List ℕ). was ++ l) (sym (gctr_more k b x n))
 
 -- ---- lengths
 
@@ -127,3 +110,58 @@ unfolding gcm_tag
 length-gcm_tag k iv a c =
     let s : List ℕ = to_be_bytes w128 (ghash (from_be_bytes w128 (Aes k (replicate 16 0))) 0 (tagged_blocks a c)) in
     length-gctr_blocks k (first_counter iv) s (block_count s)
+
+-- ---- a text in place
+
+past_block : (r : List ℕ) (size : ℕ) → size ≡ min (length r) 16 → drop size r ≡ drop 16 r
+past_block r size e = elim (cases_lt (length r) 16) [
+  | inl short ↦ drop_all size r (omega arith) ∙ sym (drop_all 16 r (omega arith))
+  | inr long ↦
+      let s : size ≡ 16 = omega arith in
+      ap (λ (n : ℕ). drop n r) s
+]
+
+-- the text in place, its first n blocks under the key stream
+pub block_covered : (now k iv x padded cb m sealed part : List ℕ) (n at size width : ℕ) → length iv ≡ 12 → n + 2 < 2 ^ 32
+    → now ≡ gctr_blocks k (inc32 (first_counter iv)) x n ++ drop (16 * n) x
+    → padded ≡ padded_block now n → size ≡ min (length now - 16 * n) 16 → 16 * n ≤ length now
+    → cb ≡ iv ++ to_be_bytes w32 (n + 2) → m ≡ Aes k cb → sealed ≡ xor_bytes padded m → part ≡ take size sealed
+    → at ≡ 16 * n → width ≡ size
+    → put_mid at width now part ≡ gctr_blocks k (inc32 (first_counter iv)) x (n + 1) ++ drop (16 * (n + 1)) x
+block_covered now k iv x padded cb m sealed part n at size width h fits held ep es within ec em ex epart eat ew =
+    let b : List ℕ = inc32 (first_counter iv) in
+    let g : List ℕ = gctr_blocks k b x n in
+    let rest : List ℕ = drop (16 * n) x in
+    let all : length now ≡ length g + length rest = ap length held ∙ length-append g rest in
+    let len : length g ≡ 16 * n = omega (arith, all, length-gctr_blocks k b x n, length-drop (16 * n) x) in
+    let front : take (16 * n) now ≡ g = ap (take (16 * n)) held ∙ take_at g rest (16 * n) len in
+    let back : drop (16 * n) now ≡ rest = ap (drop (16 * n)) held ∙ drop_at g rest (16 * n) len in
+    let size_is : size ≡ min (length rest) 16 = es ∙ ap (λ (l : ℕ). min l 16) (omega arith) in
+    let mask : m ≡ Aes k (counter b n) = em ∙ ap (Aes k) (ec ∙ sym (counter_is iv n h fits)) in
+    let kept : padded ≡ padded_block x n = ep ∙ ap (λ (l : List ℕ). take 16 (l ++ replicate 16 0)) back in
+    let taken : take size padded ≡ take 16 rest = ap (take size) kept ∙ front_of_padded rest size size_is in
+    let own : part ≡ xor_bytes (take 16 rest) (Aes k (counter b n)) =
+    epart ∙ ap (take size) ex ∙ take-xor size padded m ∙ (λ i. xor_bytes (taken i) (mask i)) in
+    let left : drop size rest ≡ drop (16 * (n + 1)) x =
+    past_block rest size size_is ∙ drop-drop 16 (16 * n) x ∙ ap (λ (j : ℕ). drop j x) (omega arith) in
+    (λ i. put_mid (eat i) (ew i) now (own i))
+    ∙ (λ i. front i ++ (xor_bytes (take 16 rest) (Aes k (counter b n)) ++ drop size (back i)))
+    ∙ ap (λ (l : List ℕ). g ++ (xor_bytes (take 16 rest) (Aes k (counter b n)) ++ l)) left
+    ∙ sym (append_assoc g (xor_bytes (take 16 rest) (Aes k (counter b n))) (drop (16 * (n + 1)) x))
+    ∙ ap (λ (l : List ℕ). l ++ drop (16 * (n + 1)) x) (sym (gctr_more k b x n))
+
+pub all_covered : (now k iv x : List ℕ) (n : ℕ) → n ≡ block_count x
+    → now ≡ gctr_blocks k (inc32 (first_counter iv)) x n ++ drop (16 * n) x → now ≡ text_under k iv x
+unfolding text_under
+all_covered now k iv x n done held =
+    let b : List ℕ = inc32 (first_counter iv) in
+    held ∙ ap (λ (l : List ℕ). gctr_blocks k b x n ++ l) (drop_all (16 * n) x (omega arith)) ∙ append-nil (gctr_blocks k b x n)
+    ∙ ap (gctr_blocks k b x) done
+
+-- what stood before a text that was covered
+pub covered_behind : (was pushed items text k j iv : List ℕ) (start : ℕ) → pushed ≡ was ++ text → start ≡ length was → j ≡ k
+    → items ≡ take start pushed ++ text_under j iv (drop start pushed) → items ≡ was ++ text_under k iv text
+covered_behind was pushed items text k j iv start ep es ej e =
+    let front : take start pushed ≡ was = ap (take start) ep ∙ take_at was text start (sym es) in
+    let back : drop start pushed ≡ text = ap (drop start) ep ∙ drop_at was text start (sym es) in
+    e ∙ (λ i. front i ++ text_under (ej i) iv (back i))

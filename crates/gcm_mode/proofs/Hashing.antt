@@ -5,9 +5,10 @@ use Rattle.std.proofs.lemmas.List.{append-nil, take_all, take-append-le, drop-re
 use Rattle.std.specs.Int.{w128, from_be_bytes, to_be_bytes}
 use Rattle.aes_block.specs.Aes.{Aes}
 use Rattle.gcm_mode.specs.Ghash.{times, padded_block, blocks, block_count, ghash}
+use Rattle.gcm_mode.specs.HashKey.{hash_key}
 use Rattle.gcm_mode.specs.Gcm.{counter, xor_bytes, gctr_blocks, first_counter, tagged_blocks, gcm_tag}
 
-take_past : (r zs : List ℕ) (k : ℕ) → take (length r + k) (r ++ zs) ≡ r ++ take k zs
+pub take_past : (r zs : List ℕ) (k : ℕ) → take (length r + k) (r ++ zs) ≡ r ++ take k zs
 take_past [] zs k =
     let e : 0 + k ≡ k = omega arith in
     ap (λ (n : ℕ). take n zs) e
@@ -32,12 +33,12 @@ padded_is r size e = elim (cases_lt (length r) 16) [
       ap (λ (n : ℕ). take n r ++ drop n (replicate 16 0)) s ∙ append-nil (take 16 r) ∙ sym (take-append-le 16 r (replicate 16 0) long)
 ]
 
-ghash-append : (h y : ℕ) (xs bs : List ℕ) → ghash h y (xs ++ bs) ≡ ghash h (ghash h y xs) bs
+pub ghash-append : (h y : ℕ) (xs bs : List ℕ) → ghash h y (xs ++ bs) ≡ ghash h (ghash h y xs) bs
 unfolding ghash
 ghash-append h y [] bs = refl
 ghash-append h y (a ∷ xs) bs = ghash-append h (times (bit_xor y a) h) xs bs
 
-ghash_one : (h y b : ℕ) → ghash h y (b ∷ []) ≡ times (bit_xor y b) h
+pub ghash_one : (h y b : ℕ) → ghash h y (b ∷ []) ≡ times (bit_xor y b) h
 unfolding ghash
 ghash_one h y b = refl
 
@@ -45,7 +46,7 @@ pub none_absorbed : (h y : ℕ) (x : List ℕ) → y ≡ ghash h y (blocks x 0)
 unfolding ghash blocks
 none_absorbed h y x = refl
 
-blocks_more : (x : List ℕ) (n : ℕ) → blocks x (n + 1) ≡ blocks x n ++ from_be_bytes w128 (padded_block x n) ∷ []
+pub blocks_more : (x : List ℕ) (n : ℕ) → blocks x (n + 1) ≡ blocks x n ++ from_be_bytes w128 (padded_block x n) ∷ []
 unfolding blocks
 blocks_more x n = rw add-one refl
 
@@ -61,11 +62,11 @@ unfolding gctr_blocks counter
 one_block k b v = refl
 
 pub tag_is : (k iv a c : List ℕ) (h ya yc v : ℕ) (s m r : List ℕ)
-    → h ≡ from_be_bytes w128 (Aes k (replicate 16 0))
+    → h ≡ hash_key k
     → ya ≡ ghash h 0 (blocks a (block_count a)) → yc ≡ ghash h ya (blocks c (block_count c))
     → v ≡ times (bit_xor yc (length a * 8 * 2 ^ 64 + length c * 8)) h
     → s ≡ to_be_bytes w128 v → m ≡ Aes k (first_counter iv) → r ≡ xor_bytes s m → r ≡ gcm_tag k iv a c
-unfolding gcm_tag
+unfolding gcm_tag hash_key
 tag_is k iv a c h ya yc v s m r eh ea ec ev es em er =
     let l : ℕ = length a * 8 * 2 ^ 64 + length c * 8 in
     let xs : List ℕ = blocks a (block_count a) in

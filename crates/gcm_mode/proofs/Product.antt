@@ -1,14 +1,15 @@
 -- The product of two blocks, bit after bit of the first one.
-use Rattle.std.proofs.Common.{◌≡◌, ℕ, zero, suc, ◌+◌, ◌*◌, ◌/◌, ◌%◌, ◌-◌, ◌^◌, ◌<◌, ◌==◌, Bool, true, false, cond, List, [], ◌∷◌, ◌++◌, length, take, replicate, get_or, bit_and, bit_xor, refl, sym, ap, ◌∙◌, arith, add-one, inl, inr, eq-eqb}
+use Rattle.std.proofs.Common.{◌≡◌, ℕ, zero, suc, ◌+◌, ◌*◌, ◌/◌, ◌%◌, ◌-◌, ◌^◌, ◌<◌, ◌≤◌, ◌==◌, Bool, true, false, cond, List, [], ◌∷◌, ◌++◌, length, take, replicate, get_or, bit_and, bit_xor, refl, sym, ap, ◌∙◌, arith, add-one, inl, inr, eq-eqb}
 use Rattle.std.proofs.lemmas.List.{get_or_push, take_at}
 use Rattle.std.proofs.lemmas.Nat.{mod-pow-add, and_mask}
-use Rattle.std.proofs.lemmas.Nat.Bits.{bit_at_lowest, bit_at-suc, bit_at_xor, bit_at-lt, bit_at_above, shr_and_one}
+use Rattle.std.proofs.lemmas.Nat.Bits.{bit_at_lowest, bit_at-suc, bit_at_xor, bit_at-lt, bit_at_above, shr_and_one, bit_at_cat_low, bit_at_cat_high}
 use Rattle.std.proofs.lemmas.Bool.{cases_eq, ne_eqb}
 use Rattle.std.specs.Int.{bit_at}
 use Rattle.std.specs.Int.Bits.{and_zero_r, xor_zero_r}
 use Rattle.aes_block.specs.Polynomial.{plus, add, product, less_modulus, remainder}
 use Rattle.gcm_mode.specs.declared.field.TheConstants.{REDUCTION}
-use Rattle.gcm_mode.specs.Ghash.{bits, number, modulus, times}
+use Rattle.gcm_mode.specs.Ghash.{bits, number, modulus}
+use Rattle.gcm_mode.specs.HashTable.{low_times}
 use Rattle.aes_block.proofs.Remainder.{add_comm, add-zeros, remainder-product}
 
 pub length-bits : (k n : ℕ) → length (bits k n) ≡ k
@@ -61,7 +62,7 @@ reduction : bits 128 REDUCTION ≡ modulus
 unfolding bits modulus
 reduction = refl
 
-length-modulus : length modulus ≡ 128
+pub length-modulus : length modulus ≡ 128
 unfolding modulus
 length-modulus = refl
 
@@ -69,7 +70,7 @@ moved_odd : (z : ℕ) → z < 2 ^ 128 → z % 2 ≡ 1 → bits 128 (bit_xor (z /
 moved_odd z h odd =
     rw (moved modulus 127 z length-modulus h, odd, bits-xor 128 (z / 2) REDUCTION, reduction) refl
 
-moved_even : (z : ℕ) → z < 2 ^ 128 → z % 2 ≡ 0 → bits 128 (z / 2) ≡ less_modulus modulus (false ∷ bits 128 z)
+pub moved_even : (z : ℕ) → z < 2 ^ 128 → z % 2 ≡ 0 → bits 128 (z / 2) ≡ less_modulus modulus (false ∷ bits 128 z)
 moved_even z h even = rw (moved modulus 127 z length-modulus h, even) refl
 
 -- the value or nothing, by a mask of ones or of zeros
@@ -157,9 +158,46 @@ number-bits (suc k) n =
     let same : 1 + k ≡ suc k = omega arith in
     rw (length-bits k n, number-bits k n, ← one_worth (bit_at n k) (bit_at-lt n k)) (sym (rw same at split))
 
--- all of x
-pub whole : (x y z : ℕ) → z < 2 ^ 128 → bits 128 z ≡ remainder modulus (product (bits 128 x) (bits 128 y)) → z ≡ times x y
-unfolding times
-whole x y z h held =
+none_of : (n : ℕ) → bits 0 n ≡ []
+unfolding bits
+none_of n = refl
+
+-- all of the lowest k bits of x
+pub low_whole : (k x y z : ℕ) → z < 2 ^ 128 → bits 128 z ≡ remainder modulus (product (bits k x) (bits 128 y)) → z ≡ low_times k x y
+unfolding low_times
+low_whole k x y z h held =
     let own : z % 2 ^ 128 ≡ z = omega arith in
     sym (rw own at (number-bits 128 z)) ∙ ap number held
+
+-- ---- several coefficients at once
+
+below_with : (k n : ℕ) → n < 2 ^ k → 1 * 2 ^ k + n < 2 ^ suc k
+below_with k n h = omega arith
+
+below_without : (k n : ℕ) → n < 2 ^ k → 0 * 2 ^ k + n < 2 ^ suc k
+below_without k n h = omega arith
+
+pub number-lt : (p : List Bool) → number p < 2 ^ length p
+unfolding number
+number-lt [] = omega arith
+number-lt (true ∷ p) = below_with (length p) (number p) (number-lt p)
+number-lt (false ∷ p) = below_without (length p) (number p) (number-lt p)
+
+pub bits-above : (k j a r : ℕ) → j ≤ k → bits j (a * 2 ^ k + r) ≡ bits j r
+unfolding bits
+bits-above k zero a r h = refl
+bits-above k (suc j) a r h =
+    rw (bit_at_cat_low a k r j (omega arith), bits-above k j a r (omega arith)) refl
+
+first_bit : (k a r : ℕ) → r < 2 ^ k → bits (suc k) (a * 2 ^ k + r) ≡ (bit_at a 0 == 1) ∷ bits k r
+unfolding bits
+first_bit k a r h =
+    let d : k - k ≡ 0 = omega arith in
+    let there : bit_at (a * 2 ^ k + r) k ≡ bit_at a 0 = bit_at_cat_high a k r k h (omega arith) ∙ ap (bit_at a) d in
+    rw (there, bits-above k k a r (omega arith)) refl
+
+pub bits-number : (p : List Bool) → bits (length p) (number p) ≡ p
+unfolding number
+bits-number [] = none_of 0
+bits-number (true ∷ p) = first_bit (length p) 1 (number p) (number-lt p) ∙ ap (λ (q : List Bool). true ∷ q) (bits-number p)
+bits-number (false ∷ p) = first_bit (length p) 0 (number p) (number-lt p) ∙ ap (λ (q : List Bool). false ∷ q) (bits-number p)

@@ -1,6 +1,6 @@
 //! GCTR: a text under the key stream (NIST SP 800-38D, section 6.5).
 
-ghost use Rattle.std.specs.Prelude.{◌≡◌, ◌+◌, ◌^◌, ◌≤◌, ◌++◌, length, vec_capacity, vec_len};
+ghost use Rattle.std.specs.Prelude.{◌≡◌, ◌+◌, ◌^◌, ◌≤◌, ◌++◌, drop, length, take, vec_capacity, vec_len};
 ghost use Rattle.std.specs.Int.{to_be_bytes, w32};
 ghost use Rattle.gcm_mode.specs.Gcm.{text_under, xor_bytes};
 
@@ -50,17 +50,28 @@ pub(crate) fn push_piece(into: &mut Vec<u8>, piece: &[u8])
     into.extend_from_slice(piece).unwrap();
 }
 
-/// Appends the text under the key stream: the ciphertext of a plain text, and the other way round.
-pub(crate) fn push_text(key: &Key, iv: &[u8; 12], text: &[u8], into: &mut Vec<u8>)
-    requires short { length text.now ≤ 2 ^ 28 }
-    requires room { vec_len into.old + length text.now ≤ vec_capacity into.old }
-    ensures items { into.new.items ≡ into.old.items ++ text_under key.now iv.now text.now }
-    ensures capacity { vec_capacity into.old ≤ vec_capacity into.new }
+/// Puts a text under the key stream, in place: a plain text becomes its ciphertext, and the other
+/// way round.
+fn cover(key: &Key, iv: &[u8; 12], text: &mut [u8])
+    requires { length text.old ≤ 2 ^ 28 }
+    ensures { text.new ≡ text_under key.now iv.now text.old }
 {
     for n in 0..text.len().div_ceil(16) {
         let mask = key.encrypt(counter_block(iv, n as u32 + 2));
         let block = xor(padded_block(text, n), mask);
         let size = (text.len() - 16 * n).min(16);
-        push_piece(into, &block[..size]);
+        text[16 * n..16 * n + size].copy_from_slice(&block[..size]);
     }
+}
+
+/// Puts the bytes from `start` on under the key stream.
+pub(crate) fn cover_from(key: &Key, iv: &[u8; 12], start: usize, into: &mut Vec<u8>)
+    requires within { start ≤ vec_len into.old }
+    requires short { vec_len into.old ≤ start + 2 ^ 28 }
+    ensures items { into.new.items
+        ≡ take start into.old.items ++ text_under key.now iv.now (drop start into.old.items) }
+    ensures capacity { vec_capacity into.old ≤ vec_capacity into.new }
+{
+    let (_, text) = into.as_mut_slice().split_at_mut(start);
+    cover(key, iv, text);
 }

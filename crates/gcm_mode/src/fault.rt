@@ -1,6 +1,6 @@
 //! Why a text is not sealed or opened.
 
-ghost use Rattle.std.specs.Prelude.{◌≡◌, ◌^◌, ◌≤◌, length, IfNone};
+ghost use Rattle.std.specs.Prelude.{◌≡◌, ◌^◌, ◌≤◌, ℕ, List, length, IfNone};
 ghost use Rattle.gcm_mode.specs.Gcm.{passed_length};
 ghost use Rattle.gcm_mode.specs.declared.fault.GcmFault.TheVariants.{Memory};
 
@@ -30,14 +30,14 @@ impl From<AllocError> for GcmFault {
 }
 
 /// The length that passes the limit: that of the text, or else that of the additional data.
-pub(crate) fn passed_length(aad: &[u8], text: &[u8]) -> Option<usize>
-    ensures value { result ≡ passed_length aad.now text.now }
-    ensures short { IfNone result ((length aad.now ≤ 2 ^ 28) × (length text.now ≤ 2 ^ 28)) }
+pub(crate) fn passed_length(aad: usize, text: usize) -> Option<usize>
+    ensures value { (a x : List ℕ) → length a ≡ aad → length x ≡ text → result ≡ passed_length a x }
+    ensures short { IfNone result ((aad ≤ 2 ^ 28) × (text ≤ 2 ^ 28)) }
 {
-    if text.len() > LONGEST {
-        Some(text.len())
-    } else if aad.len() > LONGEST {
-        Some(aad.len())
+    if text > LONGEST {
+        Some(text)
+    } else if aad > LONGEST {
+        Some(aad)
     } else {
         None
     }

@@ -1,5 +1,6 @@
 use super::*;
-use aes_block::Key;
+use crate::field::times;
+use crate::table::HashTable;
 use hex::FromHex;
 use sha2::{Digest, Sha256};
 use std::alloc::{AllocError, Global};
@@ -96,7 +97,7 @@ fn sealed_pattern(alloc: Global, text: usize, aad: usize) -> Result<Vec<u8>, Fai
     let data = pattern(alloc, aad, 2)?;
     let mut sealed = Vec::new(alloc);
     seal(
-        &Key::new(KEY),
+        &GcmKey::new(KEY),
         &IV,
         data.as_slice(),
         plain.as_slice(),
@@ -169,7 +170,7 @@ const WRITTEN_OUT: [(&str, &str, &str, &str, &str); 5] = [
 #[test]
 fn seals_the_papers_examples(rt: HostRuntime) -> Result<(), Fail> {
     for (key, iv, aad, plain, expected) in WRITTEN_OUT {
-        let key = Key::new(<[u8; 16] as FromHex>::from_hex(key)?);
+        let key = GcmKey::new(<[u8; 16] as FromHex>::from_hex(key)?);
         let iv = <[u8; 12] as FromHex>::from_hex(iv)?;
         let aad = hex::decode(rt.alloc(), aad)?;
         let plain = hex::decode(rt.alloc(), plain)?;
@@ -183,7 +184,7 @@ fn seals_the_papers_examples(rt: HostRuntime) -> Result<(), Fail> {
 
 #[test]
 fn opens_what_was_sealed_and_no_other_tag(rt: HostRuntime) -> Result<(), Fail> {
-    let key = Key::new(KEY);
+    let key = GcmKey::new(KEY);
     let data = pattern(rt.alloc(), 17, 2)?;
     let plain = pattern(rt.alloc(), 33, 1)?;
     let sealed = sealed_pattern(rt.alloc(), 33, 17)?;
@@ -198,5 +199,57 @@ fn opens_what_was_sealed_and_no_other_tag(rt: HostRuntime) -> Result<(), Fail> {
     tag[15] ^= 1;
     let wrong = unseal(&key, &IV, data.as_slice(), text, &tag, &mut opened)?;
     assert!(rt; !wrong && opened.len() == 33);
+    Ok(())
+}
+
+// Numbers of 128 bits, each from the one before.
+fn next(number: u128) -> u128 {
+    number
+        .wrapping_mul(0x2360_ed05_1fc6_5da4_4385_df64_9fcc_f645)
+        .wrapping_add(1)
+}
+
+#[test]
+fn the_table_multiplies_as_the_definition_does(rt: HostRuntime) {
+    let mut first = 1;
+    for _ in 0..20 {
+        let second = next(first);
+        let product = HashTable::new(second).times(first);
+        assert!(rt; product == times(first, second));
+        first = next(second);
+    }
+}
+
+// A text cut at a place, or at its end.
+fn parts(text: &[u8], cut: usize) -> (&[u8], &[u8]) {
+    text.split_at(cut.min(text.len()))
+}
+
+// The patterns of these lengths, sealed in two pieces, with additional data in two pieces.
+fn seals_in_pieces_alike(alloc: Global, text: usize, aad: usize, cut: usize) -> Result<bool, Fail> {
+    let key = GcmKey::new(KEY);
+    let plain = pattern(alloc, text, 1)?;
+    let data = pattern(alloc, aad, 2)?;
+    let (first, second) = parts(plain.as_slice(), cut);
+    let mut pieces = Vec::new(alloc);
+    seal_pieces(&key, &IV, data.as_slice(), first, second, &mut pieces)?;
+    let (front, back) = parts(data.as_slice(), cut);
+    let mut absorbed = Absorbed::new();
+    absorbed.absorb(&key, front);
+    absorbed.absorb(&key, back);
+    let mut behind = Vec::new(alloc);
+    seal_absorbed(&key, &IV, &absorbed, plain.as_slice(), &mut behind)?;
+    let whole = sealed_pattern(alloc, text, aad)?;
+    Ok(pieces.as_slice() == whole.as_slice() && behind.as_slice() == whole.as_slice())
+}
+
+#[test]
+fn pieces_are_sealed_as_the_whole_is(rt: HostRuntime) -> Result<(), Fail> {
+    for cut in [0, 1, 15, 16, 17, 40] {
+        for length in [0, 16, 33, 50] {
+            let alike = seals_in_pieces_alike(rt.alloc(), length, 50 - length, cut)?;
+            assert!(rt; alike, "{length} bytes, cut at {cut}");
+        }
+    }
     Ok(())
 }

@@ -5,3 +5,4 @@ pub mod Steps
 pub mod NameBytes
 pub mod Apart
 pub mod Opened
+pub mod Decided

@@ -1,3 +1,4 @@
 pub mod Sealed
+pub mod Under
 pub mod Names
 pub mod Laws

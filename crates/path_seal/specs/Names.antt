@@ -3,18 +3,21 @@ use Rattle.std.specs.Prelude.{◌≡◌, ◌≢◌, ℕ, List, [], ◌∷◌, �
 use Rattle.std.specs.Str.{IsUtf8}
 use Rattle.zk_path.specs.Paths.{HasNoSlash, joined}
 use Rattle.path_seal.specs.Sealed.{Keys, SealName, SealStem}
+use Rattle.path_seal.specs.Under.{IsUnder}
+use Rattle.path_seal.specs.declared.under.NamesUnder.{NamesUnder}
 
 -- what can stand between two slashes of a text
 pub record IsName (n : List ℕ) : Type 0 where
   pub utf8 : IsUtf8 n
   pub no_slash : HasNoSlash n
 
--- the name that is sealed to the text under the path is appended after a slash
-pub record AppendsName (k : Keys) (p : List (List ℕ)) (text before after : List ℕ) : Type 0 where
+-- the name that is sealed to the text under the path is appended after a slash, and stepped down to
+pub record AppendsName (k : Keys) (p : List (List ℕ)) (text before after : List ℕ) (below : NamesUnder) : Type 0 where
   pub name : List ℕ
   pub plain : IsName name
   pub is_sealed : SealName k p name ≡ text
   pub added : after ≡ before ++ 47 ∷ name
+  pub stepped : IsUnder k (name ∷ p) below
 
 -- the IV, the ciphertext and the tag
 pub record IsCut (bytes iv text tag : List ℕ) : Type 0 where

@@ -4,15 +4,16 @@ ghost use Rattle.std.specs.Prelude.{◌≡◌};
 ghost use Rattle.aes_block.specs.Laws.{IsBytes};
 ghost use Rattle.path_seal.specs.Sealed.{AreKeys};
 
-use aes_block::Key;
+use gcm_mode::GcmKey;
 use std::marker::Model;
 
 /// What names are sealed under: a key of 16 bytes, and a salt of 32 for their IVs.
 ///
-/// There is no `Debug`: it would print them.
+/// What the cipher needs of the key alone is made once, by [`NameKeys::new`]. There is no `Debug`:
+/// it would print the key and the salt.
 #[derive(Clone, Copy)]
 pub struct NameKeys {
-    pub(crate) key: Key,
+    pub(crate) key: GcmKey,
     pub(crate) salt: [u8; 32],
 }
 
@@ -34,7 +35,7 @@ impl NameKeys {
         ensures { result ≡ record { key = key; salt = salt } }
     {
         NameKeys {
-            key: Key::new(key),
+            key: GcmKey::new(key),
             salt,
         }
     }
@@ -47,7 +48,7 @@ impl NameKeys {
     }
 
     /// The key of the cipher, whose items are bytes.
-    pub(crate) fn key(&self) -> &Key
+    pub(crate) fn key(&self) -> &GcmKey
         ensures value { result.now ≡ self.now.key }
         ensures bytes { IsBytes self.now.key }
     {

@@ -1,25 +1,22 @@
 //! Opening names, paths and stems.
 
-ghost use Rattle.std.specs.Prelude.{◌≡◌, ◌≤◌, ◌<◌, ◌↔◌, ◌^◌, ◌++◌, ◌∷◌, ℕ, List, Ok, true, false, length, string_bytes, IfOk, IfSome, IfNone, IsTrue, MatchOption, All};
-ghost use Rattle.std.specs.Str.{IsUtf8};
+ghost use Rattle.std.specs.Prelude.{◌≡◌, ◌≤◌, ◌<◌, ◌↔◌, ◌+◌, ◌^◌, ℕ, List, Ok, true, false, length, string_bytes, IfOk, IfSome, IfNone, IsTrue, MatchOption};
 ghost use Rattle.aes_block.specs.Laws.{IsBytes};
 ghost use Rattle.hex.specs.Hex.{encode_lower};
-ghost use Rattle.gcm_mode.specs.Gcm.{Gcm};
 ghost use Rattle.zk_path.specs.Paths.{HasNoSlash, IsComponent, joined, text_of};
 ghost use Rattle.path_seal.specs.Sealed.{SealName, OpensName, Opens, OpensStem};
 ghost use Rattle.path_seal.specs.Names.{IsCut, IsName, AppendsName, IsPlainOf, IsSealedOf};
+ghost use Rattle.path_seal.specs.Under.{IsUnder, IsUnderOne};
 
 use crate::keys::NameKeys;
-use crate::sealing::{above_of, iv_of, parent_text};
-use aes_block::Key;
-use gcm_mode::unseal;
+use crate::under::NamesUnder;
 use hex::FromHexError;
 use jute_core::{Memory, Text};
 use std::alloc::Global;
 use zk_path::{NotPath, Path, check_path, read_path, read_stem};
 
-// The bytes that a text spells in lower-case hex.
-fn bytes_of(alloc: Global, text: &str) -> Result<Option<Vec<u8>>, Memory>
+/// The bytes that a text spells in lower-case hex.
+pub(crate) fn bytes_of(alloc: Global, text: &str) -> Result<Option<Vec<u8>>, Memory>
     ensures some { IfOk result (λ found. IfSome found (λ bytes. encode_lower bytes.items ≡ text.now)) }
     ensures one { IfOk result (λ found. IfSome found (λ bytes. (b : List ℕ) → IsBytes b → encode_lower b ≡ text.now → bytes.items ≡ b)) }
     ensures none { IfOk result (λ found. IfNone found ((b : List ℕ) → IsBytes b → encode_lower b ≡ text.now → ⊥)) }
@@ -40,8 +37,8 @@ fn bytes_of(alloc: Global, text: &str) -> Result<Option<Vec<u8>>, Memory>
     }
 }
 
-// The IV, the ciphertext and the tag.
-fn parts_of(bytes: &[u8]) -> Option<(&[u8; 12], &[u8], &[u8; 16])>
+/// The IV, the ciphertext and the tag.
+pub(crate) fn parts_of(bytes: &[u8]) -> Option<(&[u8; 12], &[u8], &[u8; 16])>
     ensures { MatchOption result (length bytes.now < 28) (λ parts. IsCut bytes.now parts.0.now parts.1.now parts.2.now) }
 {
     let (iv, rest) = bytes.split_first_chunk::<12>()?;
@@ -49,86 +46,28 @@ fn parts_of(bytes: &[u8]) -> Option<(&[u8; 12], &[u8], &[u8; 16])>
     Some((iv, text, tag))
 }
 
-// The name that a ciphertext and a tag open to.
-fn unsealed(
-    alloc: Global,
-    key: &Key,
-    iv: &[u8; 12],
-    aad: &[u8],
-    text: &[u8],
-    tag: &[u8; 16],
-) -> Result<Option<String>, Memory>
-    requires aad { length aad.now ≤ 2 ^ 28 }
-    requires text { length text.now ≤ 2 ^ 28 }
-    ensures some { IfOk result (λ found. IfSome found (λ name. text.now ++ tag.now ≡ Gcm key.now iv.now aad.now (string_bytes name))) }
-    ensures none { IfOk result (λ found. IfNone found ((n : List ℕ) → IsUtf8 n → text.now ++ tag.now ≡ Gcm key.now iv.now aad.now n → ⊥)) }
-{
-    let mut name = Vec::new(alloc);
-    match unseal(key, iv, aad, text, tag, &mut name) {
-        Ok(true) => {}
-        Ok(false) => return Ok(None),
-        // Neither text is too long.
-        Err(_) => return Err(Memory),
-    }
-    match String::from_utf8(name) {
-        Ok(name) => Ok(Some(name)),
-        Err(_) => Ok(None),
-    }
-}
-
-// The name without a slash that a text opens to under the path above it.
-fn opened_name(
-    alloc: Global,
-    keys: &NameKeys,
-    above: &[u8],
-    text: &str,
-) -> Result<Option<String>, Memory>
-    requires above { length above.now ≤ 2 ^ 28 }
-    requires text { length text.now ≤ 2 ^ 28 }
-    ensures some { IfOk result (λ found. IfSome found (λ name. IsName (string_bytes name)
-        × ((p : List (List ℕ)) → above.now ≡ joined p → SealName keys.now p (string_bytes name) ≡ text.now))) }
-    ensures none { IfOk result (λ found. IfNone found ((p : List (List ℕ)) (n : List ℕ) → above.now ≡ joined p → IsName n → SealName keys.now p n ≡ text.now → ⊥)) }
-    ensures key { IsBytes keys.now.key }
-{
-    let key = keys.key();
-    let Some(bytes) = bytes_of(alloc, text)? else {
-        return Ok(None);
-    };
-    let Some((iv, sealed, tag)) = parts_of(bytes.as_slice()) else {
-        return Ok(None);
-    };
-    let Some(name) = unsealed(alloc, key, iv, parent_text(above), sealed, tag)? else {
-        return Ok(None);
-    };
-    if iv_of(keys, above, name.as_bytes()) != *iv {
-        return Ok(None);
-    }
-    if name.as_str().contains('/') {
-        return Ok(None);
-    }
-    Ok(Some(name))
-}
-
-// Appends a slash and the name that a text opens to under the path that `plain` has, and says
-// whether there is one.
+// Appends a slash and the name that a text opens to, steps down to it, and says whether there is one.
 fn push_opened(
     alloc: Global,
     keys: &NameKeys,
     text: &str,
+    under: &mut NamesUnder,
     plain: &mut String,
 ) -> Result<bool, Memory>
-    requires plain { length (string_bytes plain.old) ≤ 2 ^ 28 }
-    requires text { length text.now ≤ 2 ^ 28 }
-    ensures some { result ≡ Ok true → (p : List (List ℕ)) → string_bytes plain.old ≡ joined p
-        → AppendsName keys.now p text.now (string_bytes plain.old) (string_bytes plain.new) }
-    ensures none { result ≡ Ok false → (p : List (List ℕ)) (n : List ℕ) → string_bytes plain.old ≡ joined p → IsName n → SealName keys.now p n ≡ text.now → ⊥ }
+    requires parent { IsUnderOne keys.now under.old }
+    requires room { length (string_bytes plain.old) + length text.now ≤ 2 ^ 28 }
+    ensures some { result ≡ Ok true → (p : List (List ℕ)) → string_bytes plain.old ≡ joined p → IsUnder keys.now p under.old
+        → AppendsName keys.now p text.now (string_bytes plain.old) (string_bytes plain.new) under.new }
+    ensures none { result ≡ Ok false → (p : List (List ℕ)) (n : List ℕ) → IsUnder keys.now p under.old
+        → IsName n → SealName keys.now p n ≡ text.now → ⊥ }
     ensures key { IsBytes keys.now.key }
 {
-    let Some(name) = opened_name(alloc, keys, plain.as_bytes(), text)? else {
+    let Some(name) = under.opened(alloc, keys, text)? else {
         return Ok(false);
     };
     plain.push('/')?;
     plain.push_str(name.as_str())?;
+    under.step(keys, name.as_str());
     Ok(true)
 }
 
@@ -143,20 +82,22 @@ fn opened_text(alloc: Global, keys: &NameKeys, text: &str) -> Result<Option<Stri
         return Ok(None);
     };
     let mut plain = String::new(alloc);
+    let root = Path::root(alloc);
+    let mut under = NamesUnder::new(keys, &root);
     while let Some((sealed, after)) = rest.split_once('/') {
-        if !push_opened(alloc, keys, sealed, &mut plain)? {
+        if !push_opened(alloc, keys, sealed, &mut under, &mut plain)? {
             return Ok(None);
         }
         rest = after;
     }
-    if !push_opened(alloc, keys, rest, &mut plain)? {
+    if !push_opened(alloc, keys, rest, &mut under, &mut plain)? {
         return Ok(None);
     }
     Ok(Some(plain))
 }
 
-// Whether a name without a slash is a legal component.
-fn is_component(alloc: Global, name: &str) -> Result<bool, Memory>
+/// Whether a name without a slash is a legal component.
+pub(crate) fn is_component(alloc: Global, name: &str) -> Result<bool, Memory>
     requires no_slash { HasNoSlash name.now }
     requires short { length name.now ≤ 2 ^ 28 }
     ensures { IfOk result (λ legal. IsTrue legal ↔ IsComponent name.now) }
@@ -171,6 +112,8 @@ fn is_component(alloc: Global, name: &str) -> Result<bool, Memory>
 
 /// The legal component that a text opens to under a path. None exactly where no legal component is
 /// sealed to it there.
+///
+/// For several names under one path make a [`NamesUnder`], which reads the path once.
 pub fn open_name(
     alloc: Global,
     keys: &NameKeys,
@@ -182,15 +125,8 @@ pub fn open_name(
     ensures some { IfOk result (λ found. IfSome found (OpensName keys.now parent.now text.now)) }
     ensures none { IfOk result (λ found. IfNone found ((n : List ℕ) → OpensName keys.now parent.now text.now n → ⊥)) }
 {
-    let above = above_of(parent).as_bytes();
-    let Some(name) = opened_name(alloc, keys, above, text)? else {
-        return Ok(None);
-    };
-    if is_component(alloc, name.as_str())? {
-        Ok(Some(Text::of(name)))
-    } else {
-        Ok(None)
-    }
+    let under = NamesUnder::new(keys, parent);
+    under.open(alloc, keys, text)
 }
 
 /// The legal path that a text opens to. None exactly where no legal path is sealed to it.

@@ -158,6 +158,15 @@ fn hundred_components(alloc: Global) -> Result<String, AllocError> {
     Ok(plain)
 }
 
+// The path /a/a/ and so on, of two thousand components.
+fn two_thousand_components(alloc: Global) -> Result<String, AllocError> {
+    let mut plain = String::new(alloc);
+    for _ in 0..2000 {
+        plain.push_str("/a")?;
+    }
+    Ok(plain)
+}
+
 // One component of a thousand bytes.
 fn thousand_bytes(alloc: Global) -> Result<String, AllocError> {
     let mut plain = String::from_str(alloc, "/")?;
@@ -181,13 +190,18 @@ fn long_paths_are_sealed_as_elsewhere_and_opened(rt: HostRuntime) -> Result<(), 
             2057,
             "7662e27ca655e0c2993e8d12e9c7d5fabadc794e65f4b6b4bbf594a9d10d5b64",
         ),
+        (
+            two_thousand_components(alloc)?,
+            118_000,
+            "623e14e7b2d5368a166093c786bba5cd4f31a670adeee3d0e248be6ae0d4a6c0",
+        ),
     ];
     for (plain, length, digest) in table {
-        assert!(rt; plain.len() < 2048);
+        assert!(rt; plain.len() < 8192);
         let path = read_path(alloc, plain.as_str())?;
-        assert!(rt; path.text().len() < 2048);
+        assert!(rt; path.text().len() < 8192);
         let sealed = seal_path(alloc, &keys(), &path)?;
-        assert!(rt; sealed.len() == length && sealed.len() < 8192);
+        assert!(rt; sealed.len() == length && sealed.len() < 131_072);
         let shown = hex::encode(alloc, Sha256::digest(sealed.as_str()))?;
         assert!(rt; shown.as_str() == digest);
         let opened = open_path(alloc, &keys(), sealed.as_str())?.ok_or("not opened")?;

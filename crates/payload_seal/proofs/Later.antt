@@ -1,12 +1,12 @@
 -- Keys of later epochs change nothing for a payload.
-use Rattle.std.proofs.Common.{◌≡◌, ℕ, zero, suc, ◌+◌, ◌*◌, ◌<◌, ◌≤◌, ◌↔◌, List, [], ◌∷◌, ◌++◌, length, take, drop, get_or, Option, refl, sym, ap, ◌∙◌, subst, arith, length-append}
+use Rattle.std.proofs.Common.{◌≡◌, ℕ, ◌+◌, ◌*◌, ◌<◌, ◌↔◌, List, [], ◌∷◌, ◌++◌, length, take, drop, Option, sym, ap, ◌∙◌, subst, arith, length-append}
 use Rattle.std.proofs.lemmas.List.{get_or_append_left, take-take, drop-take, length-take-le, take-append-drop}
 use Rattle.gcm_mode.specs.Gcm.{gcm_tag, text_under}
 use Rattle.payload_seal.specs.declared.opening.Flaw.{Flaw}
 use Rattle.payload_seal.specs.declared.opening.Flaw.TheVariants.{Short, UnknownEpoch, BadTag, BadFlag, WrongPath}
 use Rattle.payload_seal.specs.Keys.{epoch_of, key_of, keys_in, payload_keys}
 use Rattle.payload_seal.specs.Payload.{OpensTo, Accepts}
-use Rattle.payload_seal.specs.Flaws.{FlawOf, HasUnknownEpoch, HasBadTag, HasBadFlag, HasWrongPath}
+use Rattle.payload_seal.specs.Flaws.{FlawOf}
 use Rattle.payload_seal.specs.Laws.{IsKeptByLaterKeys}
 use Rattle.payload_seal.proofs.Parts.{cut_epoch}
 
@@ -75,8 +75,7 @@ first_key file = ap (λ (key : List ℕ). key ∷ []) (ap (take 16) (drop-take 1
 of_first : (file : List ℕ) (n : ℕ) (p : List (List ℕ)) (y : List ℕ) (d : Option (List ℕ)) → length file ≡ 64 + 16 * n → epoch_of y ≡ 0 → Accepts (payload_keys file n) p y d ↔ Accepts (payload_keys (take 64 file) 0) p y d
 of_first file n p y d size first =
     let key : List ℕ = take 16 (drop 16 file) in
-    let lt : epoch_of y < length (key ∷ []) = omega (arith, first) in
-    (
+    let lt : epoch_of y < length (key ∷ []) = omega (arith, first) in (
       λ a. subst (λ (keys : List (List ℕ)). Accepts keys p y d) (sym (first_key file)) (accept_less (key ∷ []) (keys_in (drop 64 file) n) p y d lt a),
       λ a. accept_more (key ∷ []) (keys_in (drop 64 file) n) p y d (subst (λ (keys : List (List ℕ)). Accepts keys p y d) (first_key file) a),
     )

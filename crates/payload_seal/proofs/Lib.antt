@@ -1,3 +1,6 @@
+pub mod Places
+pub mod Files
+pub mod NotLong
 pub mod Parts
 pub mod Decided
 pub mod Later

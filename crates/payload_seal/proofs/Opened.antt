@@ -1,9 +1,11 @@
 -- What the pieces of sealing and opening give.
-use Rattle.std.proofs.Common.{◌≡◌, ℕ, ◌+◌, ◌≤◌, List, [], ◌∷◌, ◌++◌, length, take, drop, Bool, true, false, Option, Some, None, Bor, bytes_eq, get_or, sym, ap, ◌∙◌, subst, arith, length-drop}
+use Rattle.std.proofs.Common.{◌≡◌, ℕ, ◌+◌, ◌-◌, ◌≤◌, List, [], ◌∷◌, ◌++◌, length, take, drop, Bool, true, false, Option, Some, None, Bor, bytes_eq, get_or, sym, ap, ◌∙◌, subst, arith, length-drop}
 use Rattle.std.specs.Prelude.{IsTrue, ◌↔◌, unwrap_or}
+use Rattle.std.specs.List.{copy_within}
 use Rattle.std.specs.Option.{option_copied}
 use Rattle.std.proofs.lemmas.Bool.{false≢true}
-use Rattle.std.proofs.lemmas.List.{take_all, take-append-drop, length-take-le, drop-drop}
+use Rattle.std.proofs.lemmas.List.Edits.{take-paste}
+use Rattle.std.proofs.lemmas.List.{take_rest, take_all, take-append-drop, length-take-le, drop-drop}
 use Rattle.std.proofs.lemmas.Slice.Eq.{bytes_eq-Decides}
 use Rattle.gcm_mode.specs.Gcm.{Gcm}
 use Rattle.sha2.specs.Sha256.{sha256}
@@ -29,16 +31,16 @@ pub first_item : (bytes : List ℕ) (flag : ℕ) → 1 ≤ length bytes → flag
 first_item [] flag long e = absurd (omega arith)
 first_item (x ∷ xs) flag long e = ap (λ (n : ℕ). n ∷ xs) (sym e)
 
--- four pushes
-pub is_plain : (a b c d digest content : List ℕ) (p : List (List ℕ)) (s : Bool) (o : Option (List ℕ)) (flag : ℕ) → a ≡ [] → b ≡ a ++ flag ∷ [] → c ≡ b ++ digest → d ≡ c ++ content → flag ≡ flag_of s o → digest ≡ sha256 (text_of p) → content ≡ content_of o → d ≡ plain_payload p s o
-unfolding plain_payload
-is_plain a b c d digest content p s o flag e f g h i j k =
-    h ∙ ap (λ (l : List ℕ). l ++ content) (g ∙ ap (λ (l : List ℕ). l ++ digest) (f ∙ ap (λ (l : List ℕ). l ++ flag ∷ []) e))
-    ∙ (λ n. i n ∷ (j n ++ k n))
+-- the IV, and the two pieces sealed behind it
+pub is_sealed : (keys : List (List ℕ)) (iv before payload head content : List ℕ) (p : List (List ℕ)) (s : Bool) (o : Option (List ℕ)) → before ≡ iv → payload ≡ before ++ Gcm (key_of keys (epoch_of iv)) iv [] (head ++ content) → head ≡ flag_of s o ∷ sha256 (text_of p) → content ≡ content_of o → payload ≡ SealData keys iv p s o
+unfolding SealData plain_payload
+is_sealed keys iv before payload head content p s o f g h k = g ∙ (λ i. f i ++ Gcm (key_of keys (epoch_of iv)) iv [] (h i ++ k i))
 
-pub is_sealed : (keys : List (List ℕ)) (iv before payload plain : List ℕ) (p : List (List ℕ)) (s : Bool) (o : Option (List ℕ)) → before ≡ iv → payload ≡ before ++ Gcm (key_of keys (epoch_of iv)) iv [] plain → plain ≡ plain_payload p s o → payload ≡ SealData keys iv p s o
-unfolding SealData
-is_sealed keys iv before payload plain p s o f g h = g ∙ (λ i. f i ++ Gcm (key_of keys (epoch_of iv)) iv [] (h i))
+-- what is moved to the front, and then cut off at the end
+pub moved : (n : ℕ) (xs : List ℕ) → n ≤ length xs → take (length xs - n) (copy_within xs n (length xs) 0) ≡ drop n xs
+moved n xs le =
+    let m = length xs - n in
+    ap (λ (k : ℕ). take k (copy_within xs n (length xs) 0)) (omega arith) ∙ take-paste xs 0 (drop n xs) m (omega arith) (omega (arith, length-drop n xs)) ∙ take_rest xs n
 
 -- the digest of a path's stem
 pub of_stem : (p stem : List (List ℕ)) (s r : Bool) (found digest : List ℕ) → s ≡ true → IsStemOf p stem → found ≡ sha256 (text_of stem) → r ≡ bytes_eq found digest → IsTrue r ↔ IsDigestFor p s digest

@@ -30,5 +30,5 @@ places_of keys = keys ++ replicate (256 - length keys) (replicate 16 0)
 pub record HoldsKeys (places : List (List ℕ)) (epoch : ℕ) (ready : List ℕ) : Type 0 where
   pub size : length places ≡ 256
   pub fits : epoch < 256
-  pub filled : places ≡ places_of (take (suc epoch) places)
+  pub rest : drop (epoch + 1) places ≡ replicate (255 - epoch) (replicate 16 0)
   pub is_ready : ready ≡ key_of places epoch

@@ -117,7 +117,12 @@ impl IvSource {
         requires { self.now.count + index < 2 ^ 32 }
         ensures { result ≡ payload_iv self.now.epoch self.now.boot self.now.connection (self.now.count + index) }
     {
-        iv_of(self.epoch, self.boot, self.connection, (self.count + index) as u32)
+        iv_of(
+            self.epoch,
+            self.boot,
+            self.connection,
+            (self.count + index) as u32,
+        )
     }
 
     /// Takes so many IVs at once, which were looked at by [`IvSource::ahead`]. Takes no memory.

@@ -4,7 +4,7 @@ ghost use Rattle.std.specs.Prelude.{◌≡◌, ◌↔◌, ◌+◌, ◌*◌, ◌<
 ghost use Rattle.payload_seal.specs.Keys.{IsKeyFileSize, key_of, keys_in, payload_keys};
 
 use crate::bytes::bytes_at;
-use aes_block::Key;
+use gcm_mode::GcmKey;
 use path_seal::NameKeys;
 use std::marker::Model;
 use thiserror::Error;
@@ -18,32 +18,31 @@ const LATER_EPOCHS: usize = 255;
 /// What payloads are sealed under: 1 to 256 keys of 16 bytes, one for each epoch from 0 on.
 /// Contracts see the list of the keys, that of epoch 0 first.
 ///
-/// The key of the greatest epoch is kept ready for sealing, so that a payload costs no key
-/// schedule. There is no `Debug`: it would print the keys.
+/// The key of the greatest epoch is kept ready, so that a payload under it costs no key schedule.
+/// There is no `Debug`: it would print the keys.
 #[derive(Clone, Copy)]
 pub struct PayloadKeys {
     // from epoch 0 on, and zeros above the greatest one
     places: [[u8; 16]; 256],
     epoch: u8,
-    ready: Key,
+    ready: GcmKey,
 }
 
 impl Model for PayloadKeys {
-    ghost use Rattle.std.specs.Prelude.{◌-◌, ℕ, suc, List, length, take};
-    ghost use Rattle.std.proofs.Common.{sym};
+    ghost use Rattle.std.specs.Prelude.{◌+◌, ◌-◌, ℕ, List, length, take};
     ghost use Rattle.payload_seal.specs.Keys.{HoldsKeys, key_of, places_of};
-    ghost use Rattle.payload_seal.specs.Held.{held_epoch, held_ready};
+    ghost use Rattle.payload_seal.specs.Held.{held_epoch, held_places, held_ready};
 
     ghost Value = { List (List ℕ) };
 
-    ghost view = { λ k. take (suc k.epoch) k.places };
+    ghost view = { λ k. take (k.epoch + 1) k.places };
 
     ghost invariant = { λ k. HoldsKeys k.places k.epoch k.ready };
 
     ghost inverse = { λ v. record { places = places_of v; epoch = length v - 1; ready = key_of v (length v - 1) } };
 
     ghost inverse_ok = { λ k h i. record {
-      places = sym h.filled i;
+      places = held_places h i;
       epoch = held_epoch h i;
       ready = held_ready h i;
     } };
@@ -51,6 +50,7 @@ impl Model for PayloadKeys {
 
 impl PayloadKeys {
     /// The key of epoch 0 alone. Takes no memory.
+    #[tactic(auto, unfolding(crate::specs::Keys::keys_in))]
     pub fn new(key: [u8; 16]) -> PayloadKeys
         ensures { result ≡ key ∷ [] }
     {
@@ -69,7 +69,7 @@ impl PayloadKeys {
         Some(PayloadKeys {
             places,
             epoch,
-            ready: Key::new(key),
+            ready: GcmKey::new(key),
         })
     }
 
@@ -94,23 +94,23 @@ impl PayloadKeys {
         PayloadKeys {
             places,
             epoch: count as u8,
-            ready: Key::new(places[count]),
+            ready: GcmKey::new(places[count]),
         }
     }
 
     /// The key of the greatest epoch.
-    pub(crate) fn ready(&self) -> &Key
+    pub(crate) fn ready(&self) -> &GcmKey
         ensures { (epoch : ℕ) → length self.now ≡ epoch + 1 → result.now ≡ key_of self.now epoch }
     {
         &self.ready
     }
 
     /// The key of an epoch, made for this call.
-    pub(crate) fn made(&self, epoch: u8) -> Key
+    pub(crate) fn made(&self, epoch: u8) -> GcmKey
         requires { epoch < length self.now }
         ensures { result ≡ key_of self.now epoch }
     {
-        Key::new(self.places[epoch as usize])
+        GcmKey::new(self.places[epoch as usize])
     }
 }
 

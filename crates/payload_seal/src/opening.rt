@@ -9,16 +9,12 @@ ghost use Rattle.payload_seal.specs.Flaws.{IsFlawIn};
 
 use crate::keys::PayloadKeys;
 use crate::plain::Plain;
-use crate::sealing::digest_of;
-use aes_block::Key;
-use gcm_mode::{GcmFault, unseal};
+use crate::sealing::{OVERHEAD, digest_of};
+use gcm_mode::{GcmFault, GcmKey, unseal};
 use jute_core::{Bytes, Memory};
 use std::alloc::Global;
 use thiserror::Error;
 use zk_path::Path;
-
-/// The bytes of an IV, a tag, a flag and a digest.
-const OVERHEAD: usize = 61;
 
 /// What is wrong with a payload, of which nothing is handed out then.
 #[derive(Clone, Copy, Debug, Drop, PartialEq, Eq, Error)]
@@ -83,7 +79,7 @@ fn parts_of(payload: &[u8]) -> Option<(&[u8; 12], &[u8], &[u8; 16])>
 
 // As `unseal`, without additional data, of a text that is short enough.
 fn unseal_short(
-    key: &Key,
+    key: &GcmKey,
     iv: &[u8; 12],
     text: &[u8],
     tag: &[u8; 16],
@@ -194,7 +190,7 @@ pub fn open_data(
     let Some(bytes) = opened(alloc, keys, payload)? else {
         return Err(NotOpened::Flawed(Flaw::BadTag));
     };
-    let plain = Plain::of(bytes.as_slice());
+    let plain = Plain::of(bytes);
     if plain.has_bad_flag() {
         let flag = plain.flag;
         return Err(NotOpened::Flawed(Flaw::BadFlag { flag }));
@@ -204,5 +200,5 @@ pub fn open_data(
         let asked = digest_of(path);
         return Err(NotOpened::Flawed(Flaw::WrongPath { sealed, asked }));
     }
-    Ok(plain.copied(alloc)?)
+    Ok(plain.into_content())
 }

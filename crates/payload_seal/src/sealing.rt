@@ -1,20 +1,22 @@
 //! Sealing a content for a path.
 
-ghost use Rattle.std.specs.Prelude.{◌≡◌, ◌<◌, ◌≤◌, ◌^◌, ◌++◌, [], length, IfOk, IfSome, OnOk};
+ghost use Rattle.std.specs.Prelude.{◌≡◌, ◌+◌, ◌<◌, ◌≤◌, ◌^◌, ◌++◌, ◌∷◌, [], length, IfOk, IfSome, OnOk};
 ghost use Rattle.std.specs.Option.{option_copied};
 ghost use Rattle.sha2.specs.Sha256.{sha256};
 ghost use Rattle.gcm_mode.specs.Gcm.{Gcm};
 ghost use Rattle.zk_path.specs.Paths.{text_of};
 ghost use Rattle.payload_seal.specs.Keys.{epoch_of, key_of};
-ghost use Rattle.payload_seal.specs.Payload.{flag_of, plain_payload, SealData};
+ghost use Rattle.payload_seal.specs.Payload.{flag_of, SealData};
 
 use crate::keys::PayloadKeys;
-use aes_block::Key;
-use gcm_mode::{GcmFault, seal};
+use gcm_mode::{GcmFault, GcmKey, seal_pieces};
 use jute_core::{Bytes, Memory};
 use sha2::{Digest, Sha256};
 use std::alloc::Global;
 use zk_path::Path;
+
+/// The bytes of an IV, a flag, a digest and a tag.
+pub(crate) const OVERHEAD: usize = 61;
 
 /// The digest of the text of a path or a stem.
 pub(crate) fn digest_of(path: &Path) -> [u8; 32]
@@ -35,30 +37,28 @@ fn flag_of(sequential: bool, content: Option<&[u8]>) -> u8
     }
 }
 
-// The text that is sealed.
-fn plain_payload(
-    alloc: Global,
-    path: &Path,
-    sequential: bool,
-    content: Option<&[u8]>,
-) -> Result<Vec<u8>, Memory>
-    requires { IfSome content (λ bytes. length bytes.now ≤ 268435395) }
-    ensures { IfOk result (λ plain. plain.items ≡ plain_payload path.now sequential (option_copied content.entry)) }
+// What comes before the content in the text that is sealed: the flag and the digest.
+fn head_of(path: &Path, sequential: bool, content: Option<&[u8]>) -> [u8; 33]
+    ensures { result ≡ flag_of sequential (option_copied content.entry) ∷ sha256 (text_of path.now) }
 {
-    let bytes = content.unwrap_or(b"");
-    let mut plain = Vec::with_capacity(alloc, bytes.len() + 33)?;
-    plain.push(flag_of(sequential, content))?;
-    plain.extend_from_slice(&digest_of(path))?;
-    plain.extend_from_slice(bytes)?;
-    Ok(plain)
+    let mut head = [flag_of(sequential, content); 33];
+    head[1..].copy_from_slice(&digest_of(path));
+    head
 }
 
-// As `seal`, without additional data, of a text that is short enough.
-fn seal_short(key: &Key, iv: &[u8; 12], plain: &[u8], into: &mut Vec<u8>) -> Result<(), Memory>
-    requires { length plain.now ≤ 2 ^ 28 }
-    ensures { OnOk result (into.new.items ≡ into.old.items ++ Gcm key.now iv.now [] plain.now) }
+// As `seal_pieces`, without additional data, of pieces that are short enough.
+fn seal_short(
+    key: &GcmKey,
+    iv: &[u8; 12],
+    first: &[u8],
+    second: &[u8],
+    into: &mut Vec<u8>,
+) -> Result<(), Memory>
+    requires { length first.now + length second.now ≤ 2 ^ 28 }
+    ensures { OnOk result (into.new.items
+        ≡ into.old.items ++ Gcm key.now iv.now [] (first.now ++ second.now)) }
 {
-    match seal(key, iv, b"", plain, into) {
+    match seal_pieces(key, iv, b"", first, second, into) {
         Ok(()) => Ok(()),
         Err(GcmFault::Memory) => Err(Memory),
         Err(GcmFault::TooLong { .. }) => unreachable!(),
@@ -69,18 +69,19 @@ fn seal_short(key: &Key, iv: &[u8; 12], plain: &[u8], into: &mut Vec<u8>) -> Res
 fn seal_under(
     keys: &PayloadKeys,
     iv: &[u8; 12],
-    plain: &[u8],
+    first: &[u8],
+    second: &[u8],
     into: &mut Vec<u8>,
 ) -> Result<(), Memory>
     requires known { epoch_of iv.now < length keys.now }
-    requires short { length plain.now ≤ 2 ^ 28 }
-    ensures { let key = key_of keys.now (epoch_of iv.now) in
-        OnOk result (into.new.items ≡ into.old.items ++ Gcm key iv.now [] plain.now) }
+    requires short { length first.now + length second.now ≤ 2 ^ 28 }
+    ensures { let key = key_of keys.now (epoch_of iv.now) in OnOk result (into.new.items
+        ≡ into.old.items ++ Gcm key iv.now [] (first.now ++ second.now)) }
 {
     if iv[0] == keys.epoch() {
-        seal_short(keys.ready(), iv, plain, into)
+        seal_short(keys.ready(), iv, first, second, into)
     } else {
-        seal_short(&keys.made(iv[0]), iv, plain, into)
+        seal_short(&keys.made(iv[0]), iv, first, second, into)
     }
 }
 
@@ -102,9 +103,10 @@ pub fn seal_data(
     requires short { IfSome content (λ bytes. length bytes.now ≤ 268435395) }
     ensures { IfOk result (λ payload. payload ≡ SealData keys.now iv path.now sequential (option_copied content.entry)) }
 {
-    let plain = plain_payload(alloc, path, sequential, content)?;
-    let mut payload = Vec::with_capacity(alloc, plain.len() + 28)?;
+    let head = head_of(path, sequential, content);
+    let bytes = content.unwrap_or(b"");
+    let mut payload = Vec::with_capacity(alloc, bytes.len() + OVERHEAD)?;
     payload.extend_from_slice(&iv)?;
-    seal_under(keys, &iv, plain.as_slice(), &mut payload)?;
+    seal_under(keys, &iv, &head, bytes, &mut payload)?;
     Ok(Bytes::of(payload))
 }

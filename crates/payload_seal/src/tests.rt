@@ -1,5 +1,5 @@
-//! Payloads and digests that other programs give for the key 10 to 1f and the IV below, and each
-//! allocating call with ample memory.
+//! Payloads and digests that other programs give for the keys 10 to 1f of epoch 0 and 40 to 4f of
+//! epoch 1 and the IVs below, and each allocating call with ample memory.
 
 use super::*;
 use hex::FromHex;
@@ -7,11 +7,13 @@ use jute_core::Bytes;
 use std::test::Fail;
 use zk_path::{Path, read_path, read_stem};
 
-// The bytes from 0 on, one more than a file of keys has.
-const FILE: [u8; 65] = [
+// The bytes from 0 on: a file of keys for the epochs 0 and 1. Its first 64 bytes have one for epoch
+// 0 alone.
+const FILE: [u8; 80] = [
     0, 1, 2, 3, 4, 5, 6, 7, 8, 9, 10, 11, 12, 13, 14, 15, 16, 17, 18, 19, 20, 21, 22, 23, 24, 25,
     26, 27, 28, 29, 30, 31, 32, 33, 34, 35, 36, 37, 38, 39, 40, 41, 42, 43, 44, 45, 46, 47, 48, 49,
-    50, 51, 52, 53, 54, 55, 56, 57, 58, 59, 60, 61, 62, 63, 64,
+    50, 51, 52, 53, 54, 55, 56, 57, 58, 59, 60, 61, 62, 63, 64, 65, 66, 67, 68, 69, 70, 71, 72, 73,
+    74, 75, 76, 77, 78, 79,
 ];
 
 const IV: [u8; 12] = [0, 0, 0, 0, 0, 0, 0, 1, 0, 0, 0, 0];
@@ -63,6 +65,10 @@ const FLAG_2: &str =
 // "x" for "/a".
 const OF_A: &str =
     "0000000000000001000000009b2c59386c8370a64a513ba61e5d18ea6a92b5868899c895460f9f14a051d065d53125492ebce8411b4b34f29435fd6129bb";
+
+// "hello" for "/app" under the key of epoch 1, with the first IV of its own.
+const EPOCH_1: &str =
+    "010000000000000100000000a1ae63b10509b6be0e1a137deed916b83e0235b540328669c3442440863407d2c104866497888563348621fa94f021ddf4d9a101edd0";
 
 fn is_same(found: &Option<Bytes>, content: Option<&str>) -> bool {
     match (found, content) {
@@ -197,11 +203,63 @@ fn ivs_are_spelled_high_byte_first_to_the_last(rt: HostRuntime) -> Result<(), Fa
 }
 
 #[test]
+fn payloads_open_under_the_key_of_their_epoch(rt: HostRuntime) -> Result<(), Fail> {
+    let keys = read_keys(&FILE)?.payloads;
+    let epoch = keys.epoch();
+    assert!(rt; epoch == 1);
+    let iv = IvSource::new(epoch, 0, 1).next()?;
+    assert!(rt; iv == [1, 0, 0, 0, 0, 0, 0, 1, 0, 0, 0, 0]);
+    let path = read_path(rt.alloc(), "/app")?;
+    let payload = seal_data(rt.alloc(), &keys, iv, &path, false, Some(b"hello"))?;
+    let expected = hex::decode(rt.alloc(), EPOCH_1)?;
+    assert!(rt; payload.as_slice() == expected.as_slice());
+    for plain in [EPOCH_1, PATHS[0].2] {
+        let payload = hex::decode(rt.alloc(), plain)?;
+        assert!(rt; payload.len() < 256);
+        let found = open_data(rt.alloc(), &keys, &path, payload.as_slice())?;
+        assert!(rt; is_same(&found, Some("hello")));
+    }
+    Ok(())
+}
+
+#[test]
+fn payloads_of_later_epochs_have_no_key(rt: HostRuntime) -> Result<(), Fail> {
+    let keys = read_keys(&FILE)?.payloads;
+    let path = read_path(rt.alloc(), "/a")?;
+    let mut payload = hex::decode(rt.alloc(), OF_A)?;
+    assert!(rt; payload.len() == 62);
+    let found = open_data(rt.alloc(), &keys, &path, payload.as_slice())?;
+    assert!(rt; is_same(&found, Some("x")));
+    payload[0] = 2;
+    let refused = open_data(rt.alloc(), &keys, &path, payload.as_slice()).err();
+    assert!(rt; refused == Some(NotOpened::Flawed(Flaw::UnknownEpoch { epoch: 2 })));
+    assert!(rt;
+        refusal(&rt, "/app", EPOCH_1)? == Some(NotOpened::Flawed(Flaw::UnknownEpoch { epoch: 1 }))
+    );
+    Ok(())
+}
+
+#[test]
 fn files_of_other_lengths_are_no_keys(rt: HostRuntime) -> Result<(), Fail> {
     assert!(rt; read_keys(&FILE[..63]).err() == Some(KeyMalformed { length: 63 }));
-    assert!(rt; read_keys(&FILE[..64]).is_ok());
-    assert!(rt; read_keys(&FILE).err() == Some(KeyMalformed { length: 65 }));
+    assert!(rt; read_keys(&FILE[..64])?.payloads.epoch() == 0);
+    assert!(rt; read_keys(&FILE[..65]).err() == Some(KeyMalformed { length: 65 }));
+    assert!(rt; read_keys(&FILE[..72]).err() == Some(KeyMalformed { length: 72 }));
     assert!(rt; read_counter_keys(&FILE[..48]).is_ok());
     assert!(rt; read_counter_keys(&FILE[..64]).err() == Some(KeyMalformed { length: 64 }));
+    Ok(())
+}
+
+#[test]
+fn at_most_256_keys_are_held(rt: HostRuntime) -> Result<(), Fail> {
+    let longer = [7; 4160];
+    assert!(rt; read_keys(&longer).err() == Some(KeyMalformed { length: 4160 }));
+    let most = read_keys(&longer[..4144])?.payloads;
+    assert!(rt; most.epoch() == 255);
+    assert!(rt; most.with_next([8; 16]).is_none());
+    let two = PayloadKeys::new([7; 16])
+        .with_next([8; 16])
+        .ok_or("no room")?;
+    assert!(rt; two.epoch() == 1);
     Ok(())
 }

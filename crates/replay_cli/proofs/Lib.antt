@@ -2,6 +2,7 @@ pub mod NumberLemmas
 pub mod LineLemmas
 pub mod EventLemmas
 pub mod ReadingLemmas
+pub mod PartLemmas
 pub mod SaidLemmas
 pub mod RunLemmas
 pub mod PrintedLemmas

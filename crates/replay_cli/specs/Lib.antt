@@ -1,3 +1,4 @@
+pub mod Counts
 pub mod Sinks
 pub mod Told
 pub mod Files

@@ -73,6 +73,7 @@ kind_name kinds.Sync = codes "sync"
 kind_name kinds.Ping = codes "ping"
 kind_name kinds.GetChildren2 = codes "getChildren2"
 kind_name kinds.Multi = codes "multi"
+kind_name kinds.Create2 = codes "create2"
 kind_name kinds.Auth = codes "auth"
 kind_name kinds.SetWatches = codes "setWatches"
 kind_name kinds.Close = codes "closeSession"
@@ -86,6 +87,7 @@ request_name r = option_map_or kind_name (kind_of r) unknown_name
 -- the request's own path, empty where it has none
 abbrev pub request_path : Request → List ℕ
 request_path (requests.Create r) = r.path
+request_path (requests.Create2 r) = r.path
 request_path (requests.Delete r) = r.path
 request_path (requests.Exists r) = r.path
 request_path (requests.GetContent r) = r.path

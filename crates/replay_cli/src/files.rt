@@ -3,8 +3,9 @@
 ghost use Rattle.std.specs.Prelude.{◌≡◌, ℕ, ◌+◌, ◌≤◌, List, [], Option, Some, None, IsErrOf, IfOk, IfErr, length};
 ghost use Rattle.std.specs.Option.{option_copied};
 ghost use Rattle.jute_core.specs.Faults.{Rose};
+ghost use Rattle.replay_cli.specs.Counts.{next};
 ghost use Rattle.replay_cli.specs.Told.{Told, untold};
-ghost use Rattle.replay_cli.specs.Files.{ReadsFile, first_named};
+ghost use Rattle.replay_cli.specs.Files.{ReadsFile, FailsAs, ReadsIn, GivesPart, told_left, told_under, first_named};
 
 use jute_core::{Bytes, Text};
 use std::alloc::Global;
@@ -29,6 +30,10 @@ pub trait Files {
     ghost told: { Self → List ℕ → Told };
     /// How often a read failed, up to the last value of a u64.
     ghost faults: { Self → ℕ };
+    /// How many reads were called, up to the last value of a u64.
+    ghost reads: { Self → ℕ };
+    /// The number of the last read that failed, from 0, if one did.
+    ghost failed: { Self → Option ℕ };
 
     /// All the bytes of a file, if they are at most `limit`. No read changes what the files hold.
     fn read(&mut self, alloc: Global, name: &str, limit: u64) -> Result<Bytes, FileFault>
@@ -36,7 +41,9 @@ pub trait Files {
         ensures same { (other : List ℕ) → told self.new other ≡ told self.old other }
         ensures later { faults self.old ≤ faults self.new }
         ensures failed { IsErrOf result FileFault.Failed
-            → Rose (faults self.old) (faults self.new) };
+            → Rose (faults self.old) (faults self.new) }
+        ensures counted { reads self.new ≡ next (reads self.old) }
+        ensures numbered { FailsAs (failed self.old) (failed self.new) (reads self.old) result };
 
     /// How often a read failed.
     fn faults(&self) -> u64
@@ -59,6 +66,7 @@ pub struct MemoryFiles {
     fails: Vec<u64>,
     calls: u64,
     faults: u64,
+    failed: Option<u64>,
     short: u64,
 }
 
@@ -67,19 +75,20 @@ impl Model for MemoryFiles {
 
     ghost Value = { FilesState };
 
-    ghost view = { λ f. record { files = f.files.items; fails = f.fails.items; calls = f.calls; faults = f.faults; short = f.short } };
+    ghost view = { λ f. record { files = f.files.items; fails = f.fails.items; calls = f.calls; faults = f.faults; failed = f.failed; short = f.short } };
 }
 
 impl MemoryFiles {
     /// Files of which the first of a name counts, and the numbers, from 0, of the reads that fail.
     pub fn new(files: Vec<NamedFile>, fails: Vec<u64>) -> MemoryFiles
-        ensures { result ≡ record { files = files.items; fails = fails.items; calls = 0; faults = 0; short = 0 } }
+        ensures { result ≡ record { files = files.items; fails = fails.items; calls = 0; faults = 0; failed = None; short = 0 } }
     {
         MemoryFiles {
             files,
             fails,
             calls: 0,
             faults: 0,
+            failed: None,
             short: 0,
         }
     }
@@ -116,22 +125,41 @@ impl Files for MemoryFiles {
 
     ghost faults = { λ f. f.faults };
 
-    fn read(&mut self, alloc: Global, name: &str, limit: u64) -> Result<Bytes, FileFault> {
+    ghost reads = { λ f. f.calls };
+
+    ghost failed = { λ f. f.failed };
+
+    fn read(&mut self, alloc: Global, name: &str, limit: u64) -> Result<Bytes, FileFault>
+        ensures content { ReadsFile (told_under self.old.files name.now) limit result }
+        ensures same { (other : List ℕ)
+            → told_under self.new.files other ≡ told_under self.old.files other }
+        ensures later { self.old.faults ≤ self.new.faults }
+        ensures failed { IsErrOf result FileFault.Failed → Rose self.old.faults self.new.faults }
+        ensures counted { self.new.calls ≡ next self.old.calls }
+        ensures numbered { FailsAs self.old.failed self.new.failed self.old.calls result }
+        ensures state { ReadsIn name.now self.old self.new result }
+    {
         let call = self.calls;
         self.calls = call.saturating_add(1);
         if self.fails.contains(&call) {
             self.faults = self.faults.saturating_add(1);
+            self.failed = Some(call);
             return Err(FileFault::Failed);
         }
         let Some(file) = named(self.files.as_slice(), name) else {
             self.faults = self.faults.saturating_add(1);
+            self.failed = Some(call);
             return Err(FileFault::Failed);
         };
         let length = file.bytes.len() as u64;
         if limit < length {
             return Err(FileFault::TooLong { length });
         }
-        copy_of(alloc, file.bytes.as_slice())
+        let Ok(bytes) = copy_of(alloc, file.bytes.as_slice()) else {
+            self.short = self.short.saturating_add(1);
+            return Err(FileFault::Memory);
+        };
+        Ok(bytes)
     }
 
     fn faults(&self) -> u64 {
@@ -143,15 +171,24 @@ impl Files for MemoryFiles {
 #[derive(Drop)]
 pub struct RealFiles<R: Drop> {
     rt: R,
+    reads: u64,
     faults: u64,
+    failed: Option<u64>,
 }
 
 impl<R: Drop> RealFiles<R> {
-    /// Files of which no read failed so far.
+    /// Files of which none was read so far.
     pub fn new(rt: R) -> RealFiles<R>
-        ensures { result.faults ≡ 0 }
+        ensures faults { result.faults ≡ 0 }
+        ensures reads { result.reads ≡ 0 }
+        ensures failed { result.failed ≡ None }
     {
-        RealFiles { rt, faults: 0 }
+        RealFiles {
+            rt,
+            reads: 0,
+            faults: 0,
+            failed: None,
+        }
     }
 }
 
@@ -165,7 +202,8 @@ enum Part {
 
 // Adds the next bytes of a reader.
 fn add_part<F: Read>(reader: &mut F, into: &mut Vec<u8>) -> Part
-    ensures { result ≡ Part.End → into.new.items ≡ into.old.items }
+    ensures { GivesPart result into.old.items into.new.items
+        (F.remaining reader.old) (F.remaining reader.new) }
 {
     let mut buffer = [0u8; 4096];
     match reader.read(&mut buffer) {
@@ -181,9 +219,9 @@ fn add_part<F: Read>(reader: &mut F, into: &mut Vec<u8>) -> Part
     }
 }
 
-// All that a reader has left, if it is within the limit.
+// All that a reader has left, if it is within the limit: exactly that, where it is known.
 fn read_all<F: Read>(alloc: Global, reader: &mut F, limit: u64) -> Result<Bytes, FileFault>
-    ensures { ReadsFile untold limit result }
+    ensures { ReadsFile (told_left (F.remaining reader.old)) limit result }
 {
     let mut bytes = Vec::new(alloc);
     for _ in 0..u64::MAX {
@@ -207,7 +245,14 @@ impl<R: std::rt::Files + Drop> Files for RealFiles<R> {
 
     ghost faults = { λ f. f.faults };
 
+    ghost reads = { λ f. f.reads };
+
+    ghost failed = { λ f. f.failed };
+
+    // The file is opened here, so no clause can name its reads: what they gave is a clause of `read_all`.
     fn read(&mut self, alloc: Global, name: &str, limit: u64) -> Result<Bytes, FileFault> {
+        let call = self.reads;
+        self.reads = call.saturating_add(1);
         let read = match fs::open(&self.rt, name) {
             Ok(file) => {
                 let mut file = file;
@@ -217,6 +262,7 @@ impl<R: std::rt::Files + Drop> Files for RealFiles<R> {
         };
         if matches!(&read, Err(FileFault::Failed)) {
             self.faults = self.faults.saturating_add(1);
+            self.failed = Some(call);
         }
         read
     }

@@ -18,7 +18,7 @@ pub use files::{FileFault, Files, MemoryFiles, NamedFile, RealFiles};
 pub use script::{Event, Events, Said, read_script, said_of};
 pub use show::{Ending, Frame, one_show, show_frames};
 pub use sinks::{Failed, MemorySink, Sink, StdSink};
-pub use top_call::{Status, run};
+pub use top_call::{Status, run, say_no_memory};
 
 #[cfg(test)]
 mod tests;

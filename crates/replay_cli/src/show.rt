@@ -19,7 +19,7 @@ use zk_messages::{Item, Kind, Request, read_request};
 use zk_records::read_connect;
 
 /// The most bytes of a client's frame.
-const CLIENT_LIMIT: i32 = 1_048_575;
+const CLIENT_LIMIT: i32 = 4_194_303;
 
 /// A frame that is a message.
 #[derive(Debug, Drop)]
@@ -137,6 +137,7 @@ fn kind_name(kind: Kind) -> &'static str
         Kind::Ping => "ping",
         Kind::GetChildren2 => "getChildren2",
         Kind::Multi => "multi",
+        Kind::Create2 => "create2",
         Kind::Auth => "auth",
         Kind::SetWatches => "setWatches",
         Kind::Close => "closeSession",
@@ -159,6 +160,7 @@ fn request_path(request: &Request) -> &str
 {
     match request {
         Request::Create(asked) => asked.path.as_str(),
+        Request::Create2(asked) => asked.path.as_str(),
         Request::Delete(asked) => asked.path.as_str(),
         Request::Exists(asked) => asked.path.as_str(),
         Request::GetContent(asked) => asked.path.as_str(),

@@ -3,7 +3,7 @@
 ghost use Rattle.std.specs.Prelude.{◌≡◌, ℕ, List, [], Option, Some, None, OnOk};
 ghost use Rattle.std.specs.Io.KnownBytes.{Appends};
 ghost use Rattle.jute_core.specs.Faults.{HasCause, Takes};
-ghost use Rattle.replay_cli.specs.Sinks.{SinkState};
+ghost use Rattle.replay_cli.specs.Sinks.{SinkState, Writes};
 
 use std::alloc::Global;
 use std::io::Write;
@@ -30,7 +30,7 @@ pub trait Sink: Drop {
         ensures { result ≡ faults self.now };
 }
 
-/// A sink in memory, which fails at the calls that it is told.
+/// A sink in memory. A write fails where its number is listed, and for want of memory.
 #[derive(Drop)]
 pub struct MemorySink {
     taken: Vec<u8>,
@@ -82,7 +82,11 @@ impl Sink for MemorySink {
 
     ghost faults = { λ s. s.faults };
 
-    fn write(&mut self, piece: &[u8]) -> Result<(), Failed> {
+    fn write(&mut self, piece: &[u8]) -> Result<(), Failed>
+        ensures bytes { Takes (Some self.old.taken) (Some self.new.taken) piece.now result }
+        ensures cause { HasCause self.old.faults self.new.faults result }
+        ensures state { Writes piece.now self.old self.new result }
+    {
         let call = self.calls;
         self.calls = call.saturating_add(1);
         if self.fails.contains(&call) {
@@ -123,7 +127,8 @@ impl<W: Write + Drop> Sink for StdSink<W> {
 
     ghost faults = { λ s. s.faults };
 
-    // The stream itself is handed the whole piece.
+    // The stream itself is handed the whole piece. That it is flushed no clause can say: std's `flush` says of a stream only
+    // that it keeps what it holds.
     fn write(&mut self, piece: &[u8]) -> Result<(), Failed>
         ensures bytes { Takes None None piece.now result }
         ensures cause { HasCause self.old.faults self.new.faults result }

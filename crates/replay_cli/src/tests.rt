@@ -183,7 +183,7 @@ const CONNECT: &str =
     "0000002d000000000000000000000000000075300000000000000000000000100000000000000000000000000000000000";
 
 // Frames of requests, and the part of the line behind the frame's length.
-const REQUESTS: [(&str, &str, &str); 17] = [
+const REQUESTS: [(&str, &str, &str); 18] = [
     (
         "0000001a0000000100000001000000022f61ffffffff0000000000000000",
         "26",
@@ -244,6 +244,11 @@ const REQUESTS: [(&str, &str, &str); 17] = [
         "36",
         "multi xid 12 path -",
     ),
+    (
+        "0000001a0000000e0000000f000000022f61ffffffff0000000000000000",
+        "26",
+        "create2 xid 14 path 2f61",
+    ),
     ("00000008fffffffe0000000b", "8", "ping xid -2 path -"),
     ("0000000bfffffffc00000064000000", "11", "auth xid -4 path -"),
     (
@@ -268,8 +273,8 @@ const ENDS: [(&str, &str); 19] = [
     ("", "end"),
     ("00", "rest 1"),
     ("0000000800000001", "rest 8"),
-    ("000fffff", "rest 4"),
-    ("00100000", "too-long 1048576"),
+    ("003fffff", "rest 4"),
+    ("00400000", "too-long 4194304"),
     ("72756f6b", "too-long 1920298859"),
     ("ffffffff00", "too-long -1"),
     ("0000000000000000", "malformed 0 short"),

@@ -4,11 +4,13 @@ ghost use Rattle.std.specs.Prelude.{◌≡◌, ◌≢◌, ℕ, ◌≤◌, ◌<�
 ghost use Rattle.replay_cli.specs.Printed.{line, world_text};
 ghost use Rattle.jute_core.specs.Faults.{Rose, Wrote, WroteFront};
 ghost use Rattle.replay_cli.specs.Told.{Told, Agrees};
-ghost use Rattle.replay_cli.specs.Words.{word, Fits, ReadsFiles, IsShow, IsUnbuilt, IsFileOf};
+ghost use Rattle.replay_cli.specs.Counts.{next};
+ghost use Rattle.replay_cli.specs.Words.{word, Fits, ReadsFiles, IsShow, IsUnbuilt};
 ghost use Rattle.replay_cli.specs.declared.script.Event.{Event};
 ghost use Rattle.replay_cli.specs.Script.{IsScript};
 ghost use Rattle.replay_cli.specs.Run.{shown, MayHold, IsTooLong, IsBuilt, IsBuiltScript, CannotBuild, PrintsEvents, IsReplayText, IsShownText, Prints, IsLongOf, HasLong, StopsAtFile, IsNotBuilt};
-ghost use Rattle.replay_cli.specs.Stops.{exit_status, Because, status_of, complaint_of, too_long_line, Complains};
+ghost use Rattle.replay_cli.specs.Sinks.{ReportsFault, FailsToReport};
+ghost use Rattle.replay_cli.specs.Stops.{exit_status, Because, status_of, complaint_of, unread_line, too_long_line, IsUnreadOf, IsUnread, IsLine, Complains};
 
 use crate::files::{FileFault, Files};
 use crate::printed::{push_connection, push_line, push_order};
@@ -76,8 +78,10 @@ enum Stop<'a> {
 fn load<'a, F: Files>(alloc: Global, name: &'a str, files: &mut F) -> Result<Bytes, Stop<'a>>
     ensures ok { IfOk result (λ bytes. MayHold (F.told files.old name.now) bytes) }
     ensures err { IfErr result (λ stop. Because stop ⊥ (λ n. (n ≡ name.now)
+        × (F.failed files.new ≡ Some (F.reads files.old))
         × Rose (F.faults files.old) (F.faults files.new)) (λ n. (n ≡ name.now)
         × IsTooLong (F.told files.old n)) ⊥) }
+    ensures counted { F.reads files.new ≡ next (F.reads files.old) }
     ensures same { (other : List ℕ) → F.told files.new other ≡ F.told files.old other }
     ensures later { F.faults files.old ≤ F.faults files.new }
 {
@@ -171,8 +175,8 @@ fn replay<'a, F: Files>(
 ) -> Result<String, Stop<'a>>
     ensures ok { IfOk result (λ text. IsReplayText (F.told files.old key.now)
         (F.told files.old script.now) (string_bytes text)) }
-    ensures err { IfErr result (λ stop. Because stop ⊥ (λ name. ((name ≡ key.now)
-        ⊎ (name ≡ script.now))
+    ensures err { IfErr result (λ stop. Because stop ⊥ (λ name.
+        IsUnreadOf key.now script.now (F.reads files.old) (F.failed files.new) name
         × Rose (F.faults files.old) (F.faults files.new)) (IsLongOf (F.told files.old) key.now
         script.now) (CannotBuild (F.told files.old key.now) (F.told files.old script.now))) }
     ensures later { F.faults files.old ≤ F.faults files.new }
@@ -195,6 +199,7 @@ fn replay<'a, F: Files>(
 fn show<'a, F: Files>(alloc: Global, name: &'a str, files: &mut F) -> Result<String, Stop<'a>>
     ensures ok { IfOk result (λ text. IsShownText (F.told files.old name.now) (string_bytes text)) }
     ensures err { IfErr result (λ stop. Because stop ⊥ (λ file. (file ≡ name.now)
+        × (F.failed files.new ≡ Some (F.reads files.old))
         × Rose (F.faults files.old) (F.faults files.new)) (λ file. (file ≡ name.now)
         × IsTooLong (F.told files.old file)) ⊥) }
     ensures later { F.faults files.old ≤ F.faults files.new }
@@ -217,7 +222,8 @@ fn outcome<'a, F: Files>(
 ) -> Result<String, Stop<'a>>
     ensures ok { IfOk result (λ text. Prints words.now (F.told files.old) (string_bytes text)) }
     ensures err { IfErr result (λ stop. Because stop (Fits words.now
-        → ⊥) (λ name. IsFileOf words.now name × Rose (F.faults files.old) (F.faults files.new))
+        → ⊥) (λ name. IsUnread words.now (F.reads files.old) (F.failed files.new) name
+        × Rose (F.faults files.old) (F.faults files.new))
         (HasLong words.now (F.told files.old)) (IsNotBuilt words.now (F.told files.old))) }
     ensures later { F.faults files.old ≤ F.faults files.new }
     ensures unread { (ReadsFiles words.now → ⊥) → files.new ≡ files.old }
@@ -258,9 +264,12 @@ fn status_of(stop: Stop<'_>) -> Status
 }
 
 // Tries to say that a write failed, whatever comes of it.
+#[tactic(auto, unfolding(crate::specs::Printed::line), using(crate::proofs::RunLemmas::reports))]
 fn write_fault<E: Sink>(err: &mut E) -> Status
     ensures status { result ≡ Status.WriteFault }
     ensures later { E.faults err.old ≤ E.faults err.new }
+    ensures reports { ReportsFault (E.faults err.old) (E.faults err.new)
+        (E.taken err.old) (E.taken err.new) }
 {
     let _ = err.write(b"cannot write\n");
     Status::WriteFault
@@ -272,7 +281,8 @@ fn print<K: Sink, E: Sink>(out: &mut K, err: &mut E, text: &[u8]) -> Status
         × Wrote (K.taken out.old) (K.taken out.new) text.now }
     ensures fault { result ≢ Status.Done → (result ≡ Status.WriteFault)
         × Rose (K.faults out.old) (K.faults out.new)
-        × WroteFront (K.taken out.old) (K.taken out.new) text.now }
+        × WroteFront (K.taken out.old) (K.taken out.new) text.now
+        × ReportsFault (E.faults err.old) (E.faults err.new) (E.taken err.old) (E.taken err.new) }
 {
     match out.write(text) {
         Ok(()) => Status::Done,
@@ -286,6 +296,9 @@ fn say<E: Sink>(status: Status, text: &[u8], err: &mut E) -> Status
         × Wrote (E.taken err.old) (E.taken err.new) text.now }
     ensures fault { result ≡ Status.WriteFault → (status ≡ Status.WriteFault)
         ⊎ Rose (E.faults err.old) (E.faults err.new) }
+    ensures reports { result ≡ Status.WriteFault → (status ≡ Status.WriteFault)
+        ⊎ FailsToReport (E.faults err.old) (E.faults err.new)
+        (E.taken err.old) (E.taken err.new) text.now }
 {
     match err.write(text) {
         Ok(()) => status,
@@ -293,8 +306,19 @@ fn say<E: Sink>(status: Status, text: &[u8], err: &mut E) -> Status
     }
 }
 
-// Says why a run stopped, and answers its status.
+/// Writes the line for want of memory, and returns its status. For a caller that has no words to run.
 #[tactic(auto, unfolding(crate::specs::Printed::line))]
+pub fn say_no_memory<E: Sink>(err: &mut E) -> Status
+    ensures memory { result ≢ Status.WriteFault → (result ≡ Status.Memory)
+        × Wrote (E.taken err.old) (E.taken err.new) (line (codes "no memory") []) }
+    ensures fault { result ≡ Status.WriteFault → Rose (E.faults err.old) (E.faults err.new) }
+    ensures reports { result ≡ Status.WriteFault → FailsToReport (E.faults err.old)
+        (E.faults err.new) (E.taken err.old) (E.taken err.new) (line (codes "no memory") []) }
+{
+    say(Status::Memory, b"no memory\n", err)
+}
+
+// Says why a run stopped, and answers its status.
 fn complain<E: Sink>(alloc: Global, stop: Stop<'_>, err: &mut E) -> Status
     ensures status { (result ≡ status_of stop.entry) ⊎ (result ≡ Status.Memory)
         ⊎ (result ≡ Status.WriteFault) }
@@ -303,10 +327,14 @@ fn complain<E: Sink>(alloc: Global, stop: Stop<'_>, err: &mut E) -> Status
     ensures memory { result ≡ Status.Memory
         → Wrote (E.taken err.old) (E.taken err.new) (line (codes "no memory") []) }
     ensures fault { result ≡ Status.WriteFault → Rose (E.faults err.old) (E.faults err.new) }
+    ensures reports { result ≡ Status.WriteFault → (text : List ℕ)
+        × ((text ≡ complaint_of stop.entry) ⊎ (text ≡ line (codes "no memory") []))
+        × FailsToReport (E.faults err.old) (E.faults err.new)
+        (E.taken err.old) (E.taken err.new) text }
 {
     match complaint(alloc, stop) {
         Ok(text) => say(status_of(stop), text.as_bytes(), err),
-        Err(_) => say(Status::Memory, b"no memory\n", err),
+        Err(_) => say_no_memory(err),
     }
 }
 
@@ -326,9 +354,12 @@ pub fn run<F: Files, K: Sink, E: Sink>(
     ensures bad_words { result ≡ Status.BadWords → Fits words.now → ⊥ }
     ensures no_row { (Fits words.now → ⊥) → (result ≡ Status.BadWords)
         ⊎ (result ≡ Status.WriteFault) ⊎ (result ≡ Status.Memory) }
-    // A file was not read.
+    // A file was not read, and is named: a replay's key is read first, and its script second.
     ensures read_fault { result ≡ Status.ReadFault → ReadsFiles words.now
         × Rose (F.faults files.old) (F.faults files.new) }
+    ensures unread_file { result ≡ Status.ReadFault → (name : List ℕ)
+        × IsUnread words.now (F.reads files.old) (F.failed files.new) name
+        × Wrote (E.taken err.old) (E.taken err.new) (unread_line name) }
     // A file is too long, and is named: a script only where the key may be one.
     ensures too_long { result ≡ Status.InputTooLong → (name : List ℕ)
         × HasLong words.now (F.told files.old) name
@@ -353,6 +384,12 @@ pub fn run<F: Files, K: Sink, E: Sink>(
     ensures front { result ≡ Status.WriteFault → (K.taken out.new ≡ K.taken out.old)
         ⊎ ((text : List ℕ) × Prints words.now (F.told files.old) text
         × WroteFront (K.taken out.old) (K.taken out.new) text) }
+    // `err` took a front of the line for that, behind a front of another line where that one's write failed.
+    ensures reports { result ≡ Status.WriteFault
+        → ReportsFault (E.faults err.old) (E.faults err.new) (E.taken err.old) (E.taken err.new)
+        ⊎ ((text : List ℕ) × IsLine words.now text
+        × FailsToReport (E.faults err.old) (E.faults err.new)
+        (E.taken err.old) (E.taken err.new) text) }
     // Each other status leaves `out` as it was, and has its line on `err`.
     ensures quiet { result ≢ Status.Done → result ≢ Status.WriteFault
         → K.taken out.new ≡ K.taken out.old }

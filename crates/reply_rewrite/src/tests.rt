@@ -54,6 +54,7 @@ fn has_shape(shape: Shape, outcome: &Outcome) -> bool
         (_, Outcome::Error { code: _ }) => true,
         (Shape::Empty, Outcome::Empty) => true,
         (Shape::Path, Outcome::Path(_)) => true,
+        (Shape::Created2, Outcome::Created2 { path: _, stat: _ }) => true,
         (Shape::Stat, Outcome::Stat(_)) => true,
         (
             Shape::Content,
@@ -93,6 +94,7 @@ fn is_short_result(stored: &OpResult) -> bool
 {
     match stored {
         OpResult::Created(text) => text.len() < 1000,
+        OpResult::Created2 { path, stat: _ } => path.len() < 1000,
         _ => true,
     }
 }
@@ -114,6 +116,7 @@ fn is_short(outcome: &Outcome) -> bool
 {
     match outcome {
         Outcome::Path(text) => text.len() < 1000,
+        Outcome::Created2 { path, stat: _ } => path.len() < 1000,
         Outcome::Content {
             content: Some(bytes),
             stat: _,
@@ -125,7 +128,7 @@ fn is_short(outcome: &Outcome) -> bool
     }
 }
 
-#[tactic(auto, unfolding(crate::specs::Short::HasShortPath))]
+#[tactic(auto, unfolding(request_queue::specs::Short::HasShortPath))]
 fn has_short_path(asked: &Asked) -> bool
     ensures { IsTrue result → HasShortPath asked.now }
 {
@@ -161,6 +164,14 @@ fn sequential(alloc: Global, text: &str) -> Result<Asked, Fail> {
     Ok(Asked::Create {
         path,
         sequential: true,
+    })
+}
+
+fn create2(alloc: Global, text: &str) -> Result<Asked, Fail> {
+    let path = path_of(alloc, text)?;
+    Ok(Asked::Create2 {
+        path,
+        sequential: false,
     })
 }
 
@@ -211,6 +222,16 @@ fn four(alloc: Global) -> Result<Asked, Fail> {
     Ok(Asked::Multi(AskedOps::of(ops)))
 }
 
+// Two operations: create2 "/app", check.
+fn two(alloc: Global) -> Result<Asked, Fail> {
+    let create2 = AskedOp::Create2 {
+        path: path_of(alloc, "/app")?,
+        sequential: false,
+    };
+    let ops = vec![in alloc; create2, AskedOp::Check]?;
+    Ok(Asked::Multi(AskedOps::of(ops)))
+}
+
 // ---- answers
 
 fn stat(length: i32) -> Stat {
@@ -231,6 +252,13 @@ fn stat(length: i32) -> Stat {
 
 fn text(alloc: Global, text: &str) -> Result<Outcome, Fail> {
     Ok(Outcome::Path(Text::copy_of(alloc, text)?))
+}
+
+fn made(alloc: Global, path: &str, length: i32) -> Result<Outcome, Fail> {
+    Ok(Outcome::Created2 {
+        path: Text::copy_of(alloc, path)?,
+        stat: stat(length),
+    })
 }
 
 // A payload in hex, or null.
@@ -294,6 +322,20 @@ fn done(alloc: Global, made: &str, length: i32) -> Result<Outcome, Fail> {
     let changed = OpResult::Changed(stat(length));
     let results = vec![in alloc; made, OpResult::Deleted, changed, OpResult::Checked]?;
     Ok(Outcome::Multi(Results::of(results)))
+}
+
+// The results of the two operations.
+fn done_two(alloc: Global, made: OpResult) -> Result<Outcome, Fail> {
+    let results = vec![in alloc; made, OpResult::Checked]?;
+    Ok(Outcome::Multi(Results::of(results)))
+}
+
+fn made_in_multi(alloc: Global, path: &str, length: i32) -> Result<Outcome, Fail> {
+    let made = OpResult::Created2 {
+        path: Text::copy_of(alloc, path)?,
+        stat: stat(length),
+    };
+    done_two(alloc, made)
 }
 
 // ---- what a client is told
@@ -369,6 +411,32 @@ fn paths_are_opened(rt: HostRuntime) -> Result<(), Fail> {
     assert!(rt; is_created(alloc, "/app", SEALED_APP)?);
     assert!(rt; is_numbered(alloc, "/q/n-", SEALED_NUMBERED, "0000000001")?);
     assert!(rt; is_synced(alloc, "/app", SEALED_APP)?);
+    Ok(())
+}
+
+#[test]
+fn a_create2_is_told_its_path_and_its_stat(rt: HostRuntime) -> Result<(), Fail> {
+    let alloc = rt.alloc();
+    let asked = create2(alloc, "/app")?;
+    let stored = made(alloc, SEALED_APP, 66)?;
+    let told = plain_of(alloc, &asked, stored)?;
+    assert!(rt;
+        matches!(&told, Outcome::Created2 { path, stat: plain } if path.as_str() == "/app" && *plain == stat(5))
+    );
+    Ok(())
+}
+
+#[test]
+fn a_create2_in_a_multi_is_told_its_path_and_its_stat(rt: HostRuntime) -> Result<(), Fail> {
+    let alloc = rt.alloc();
+    let asked = two(alloc)?;
+    let stored = made_in_multi(alloc, SEALED_APP, 66)?;
+    let Outcome::Multi(results) = plain_of(alloc, &asked, stored)? else {
+        return Err("no results".into());
+    };
+    assert!(rt;
+        matches!(results.get(0), Some(OpResult::Created2 { path, stat: plain }) if path.as_str() == "/app" && *plain == stat(5))
+    );
     Ok(())
 }
 
@@ -633,6 +701,42 @@ fn wrong_paths_are_told(rt: HostRuntime) -> Result<(), Fail> {
         Cause::Created
     );
     assert_eq!(rt; sync_cause(alloc, "/b", SEALED_APP)?, Cause::SyncPath);
+    Ok(())
+}
+
+fn create2_cause(alloc: Global, stored: &str, length: i32) -> Result<Cause, Fail> {
+    let asked = create2(alloc, "/app")?;
+    let stored = made(alloc, stored, length)?;
+    cause_of(alloc, &asked, stored)
+}
+
+fn two_cause(alloc: Global, stored: Outcome) -> Result<Cause, Fail> {
+    let asked = two(alloc)?;
+    cause_of(alloc, &asked, stored)
+}
+
+// The path is judged before the length.
+#[test]
+fn wrong_answers_to_a_create2_are_told(rt: HostRuntime) -> Result<(), Fail> {
+    let alloc = rt.alloc();
+    assert_eq!(rt; create2_cause(alloc, SEALED_NUMBERED, 60)?, Cause::Created);
+    assert_eq!(rt;
+        create2_cause(alloc, SEALED_APP, 60)?,
+        Cause::Length { stored: 60 }
+    );
+    Ok(())
+}
+
+#[test]
+fn wrong_results_of_a_create2_are_told(rt: HostRuntime) -> Result<(), Fail> {
+    let alloc = rt.alloc();
+    let other = made_in_multi(alloc, SEALED_NUMBERED, 60)?;
+    assert_eq!(rt; two_cause(alloc, other)?, Cause::MultiCreated { index: 0 });
+    let short = made_in_multi(alloc, SEALED_APP, 60)?;
+    assert_eq!(rt; two_cause(alloc, short)?, Cause::MultiLength { index: 0 });
+    let as_create = OpResult::Created(Text::copy_of(alloc, SEALED_APP)?);
+    let as_create = done_two(alloc, as_create)?;
+    assert_eq!(rt; two_cause(alloc, as_create)?, Cause::MultiKind { index: 0 });
     Ok(())
 }
 

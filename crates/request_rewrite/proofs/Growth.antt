@@ -92,7 +92,8 @@ named_grown k text true p h = omega (arith, ap length h.1, stem_growth k p h.0)
 named_grown k text false p h = omega (arith, ap length h.spelled, text_growth k p h.legal)
 
 name_grown : (k : Keys) (flags : ℤ) (text : List ℕ) (sequential : Bool) (p : List (List ℕ)) → IsNameOf flags text sequential p → length (SealNameOf k sequential p) ≤ 30 * length text + 27
-name_grown k flags text sequential p h = named_grown k text sequential p h.named
+unfolding IsNameOf
+name_grown k flags text sequential p h = named_grown k text sequential p h.1
 
 -- ---- how long a payload is
 

@@ -23,7 +23,8 @@ named_length text true path h = ap length (h.1 ∙ sym (stem_text path h.0))
 named_length text false path h = ap length h.spelled
 
 pub name_short : (flags : ℤ) (text : List ℕ) (sequential : Bool) (path : List (List ℕ)) → IsNameOf flags text sequential path → IsShort text → length (text_of path) ≤ 268435456
-name_short flags text sequential path h short = omega (arith, short, named_length text sequential path h.named)
+unfolding IsNameOf
+name_short flags text sequential path h short = omega (arith, short, named_length text sequential path h.1)
 
 pub stem_sealed : (k : Keys) (stem : List (List ℕ)) → IsStem stem → SealPath k stem ≡ SealStem k stem
 unfolding text_of sealed
@@ -36,20 +37,23 @@ named_sealed k text true path h = stem_sealed k path h.0
 named_sealed k text false path h = refl
 
 pub name_sealed : (k : Keys) (flags : ℤ) (text veiled : List ℕ) (sequential : Bool) (path : List (List ℕ)) → IsNameOf flags text sequential path → veiled ≡ SealPath k path → veiled ≡ SealNameOf k sequential path
-name_sealed k flags text veiled sequential path h e = e ∙ named_sealed k text sequential path h.named
+unfolding IsNameOf
+name_sealed k flags text veiled sequential path h e = e ∙ named_sealed k text sequential path h.1
 
 pub text_sealed : (k : Keys) (text veiled : List ℕ) (path : List (List ℕ)) → IsTextOf text path → veiled ≡ SealPath k path → SealsText k text veiled
 text_sealed k text veiled path h e = record { path = path; named = h; is_sealed = e }
 
 pub stem_named : (flags : ℤ) (text : List ℕ) (sequential : Bool) (path : List (List ℕ)) → (IsTrue sequential ↔ IsSequential flags) → sequential ≡ true → IsNamed true text path → IsNameOf flags text sequential path
-stem_named flags text sequential path is same h = record { flagged = is; named = subst (λ (b : Bool). IsNamed b text path) (sym same) h }
+unfolding IsNameOf
+stem_named flags text sequential path is same h = (is, subst (λ (b : Bool). IsNamed b text path) (sym same) h)
 
 plain_named : (text : List ℕ) (path : List (List ℕ)) → IsTextOf text path → IsNamed false text path
 unfolding IsNamed
 plain_named text path h = h
 
 pub path_named : (flags : ℤ) (text : List ℕ) (sequential : Bool) (path : List (List ℕ)) → (IsTrue sequential ↔ IsSequential flags) → sequential ≡ false → IsTextOf text path → IsNameOf flags text sequential path
-path_named flags text sequential path is same h = record { flagged = is; named = subst (λ (b : Bool). IsNamed b text path) (sym same) (plain_named text path h) }
+unfolding IsNameOf
+path_named flags text sequential path is same h = (is, subst (λ (b : Bool). IsNamed b text path) (sym same) (plain_named text path h))
 
 pub stem_legal : (flags : ℤ) (text : List ℕ) (sequential : Bool) → (IsTrue sequential ↔ IsSequential flags) → sequential ≡ true → IsNameFor flags text → IsStemText text
 stem_legal flags text sequential is same h = stem_for flags text (is.0 same) h

@@ -45,7 +45,8 @@ named_once text false true p q same x y = absurd (false≢true (same.1 refl))
 named_once text false false p q same x y = (refl, one_text p q x.legal y.legal (sym x.spelled ∙ y.spelled))
 
 name_once : (flags : ℤ) (text : List ℕ) (s t : Bool) (p q : List (List ℕ)) → IsNameOf flags text s p → IsNameOf flags text t q → (s ≡ t) × (p ≡ q)
-name_once flags text s t p q x y = named_once text s t p q (λ h. y.flagged.1 (x.flagged.0 h), λ h. x.flagged.1 (y.flagged.0 h)) x.named y.named
+unfolding IsNameOf
+name_once flags text s t p q x y = named_once text s t p q (λ h. y.0.1 (x.0.0 h), λ h. x.0.1 (y.0.0 h)) x.1 y.1
 
 texts_once : (k : Keys) (plain xs ys : List (List ℕ)) → AllZip (SealsText k) plain xs → AllZip (SealsText k) plain ys → xs ≡ ys
 texts_once k [] [] [] a b = refl

@@ -5,9 +5,8 @@ use Rattle.path_seal.specs.Sealed.{Keys, SealPath, SealStem}
 use Rattle.zk_messages.specs.Refuses.{IsSequential}
 
 -- the text of a create or a create2: this legal stem's where a number will follow, and else this legal path's
-pub record IsNameOf (flags : ℤ) (text : List ℕ) (sequential : Bool) (path : List (List ℕ)) : Type 0 where
-  pub flagged : IsTrue sequential ↔ IsSequential flags
-  pub named : IsNamed sequential text path
+unfoldable pub IsNameOf : ℤ → List ℕ → Bool → List (List ℕ) → Type 0
+IsNameOf flags text sequential path = (IsTrue sequential ↔ IsSequential flags) × IsNamed sequential text path
 
 -- what its stem or path is sealed to
 unfoldable pub SealNameOf : Keys → Bool → List (List ℕ) → List ℕ

@@ -36,6 +36,10 @@ const VEILED_APP: &str =
 const CREATE_STEM: &str =
     "0000000100000001000000052f712f6e2d000000036f6e65000000010000001f00000005776f726c6400000006616e796f6e6500000003";
 
+// The same as a create2.
+const CREATE2_STEM: &str =
+    "000000010000000f000000052f712f6e2d000000036f6e65000000010000001f00000005776f726c6400000006616e796f6e6500000003";
+
 const SEALED_STEM: &str =
     "/32c8bcbdfdc48170ded594ff87ec2249754ee0ae8dd98814ab8fde07ca/04db240379dceee87d45726e93c2e92de5f7fef17c31e1adbef28ca218d4";
 
@@ -50,8 +54,8 @@ const TWO_CREATES: &str =
 const DEEP: &str =
     "0000000100000003000000502f612f612f612f612f612f612f612f612f612f612f612f612f612f612f612f612f612f612f612f612f612f612f612f612f612f612f612f612f612f612f612f612f612f612f612f612f612f612f612f6100";
 
-// One of each type, with four payloads together.
-const EACH_TYPE: [&str; 14] = [
+// One of each type, with six payloads together.
+const EACH_TYPE: [&str; 15] = [
     "0000000100000001000000042f6170700000000568656c6c6f000000010000001f00000005776f726c6400000006616e796f6e6500000000",
     "0000000100000002000000022f61ffffffff",
     "0000000100000003000000022f6101",
@@ -63,7 +67,8 @@ const EACH_TYPE: [&str; 14] = [
     "0000000100000009000000022f61",
     "fffffffe0000000b",
     "000000010000000c000000022f6100",
-    "000000020000000e0000000100ffffffff000000022f6200000000000000010000001f00000005776f726c6400000006616e796f6e65000000000000000500ffffffff000000022f6100000000000000050000000200ffffffff000000022f61ffffffffffffffff01ffffffff",
+    "000000020000000e0000000100ffffffff000000022f6200000000000000010000001f00000005776f726c6400000006616e796f6e65000000000000000f00ffffffff000000022f6300000000000000010000001f00000005776f726c6400000006616e796f6e65000000000000000500ffffffff000000022f6100000000000000050000000200ffffffff000000022f61ffffffffffffffff01ffffffff",
+    "000000010000000f000000042f6170700000000568656c6c6f000000010000001f00000005776f726c6400000006616e796f6e6500000000",
     "fffffff800000065000000000000000200000001000000022f610000000000000000",
     "00000002fffffff5",
 ];
@@ -83,15 +88,26 @@ fn request_in(alloc: Global, body: &str) -> Result<Request, Fail>
 // Under the first IVs of the connection.
 fn first_form(alloc: Global, body: &str) -> Result<(Request, Pending), Fail> {
     let keys = read_keys(&FILE)?;
-    let mut ivs = IvSource::new(0, 0, 1);
+    let mut ivs = IvSource::new(keys.payloads.epoch(), 0, 1);
     let request = request_in(alloc, body)?;
     Ok(veil_request(alloc, &keys, &mut ivs, 7, 56, &request)?)
 }
 
 fn is_create(veiled: &Request, sealed: &str, payload: &[u8], flags: i32) -> bool {
-    let Request::Create(create) = veiled else {
-        return false;
-    };
+    match veiled {
+        Request::Create(create) => is_sealed(create, sealed, payload, flags),
+        _ => false,
+    }
+}
+
+fn is_create2(veiled: &Request, sealed: &str, payload: &[u8], flags: i32) -> bool {
+    match veiled {
+        Request::Create2(create) => is_sealed(create, sealed, payload, flags),
+        _ => false,
+    }
+}
+
+fn is_sealed(create: &CreateRequest, sealed: &str, payload: &[u8], flags: i32) -> bool {
     let Some(content) = &create.content else {
         return false;
     };
@@ -161,10 +177,21 @@ fn a_sequential_create_is_sealed_for_its_stem(rt: HostRuntime) -> Result<(), Fai
 }
 
 #[test]
+fn a_sequential_create2_is_sealed_as_a_create(rt: HostRuntime) -> Result<(), Fail> {
+    let payload = hex::decode(rt.alloc(), ONE)?;
+    let (veiled, pending) = first_form(rt.alloc(), CREATE2_STEM)?;
+    assert!(rt; is_create2(&veiled, SEALED_STEM, payload.as_slice(), 3));
+    assert!(rt;
+        matches!(&pending.asked, Asked::Create2 { path, sequential: true } if path.text() == "/q/n-")
+    );
+    Ok(())
+}
+
+#[test]
 fn the_last_iv_seals_one_create_and_not_two(rt: HostRuntime) -> Result<(), Fail> {
     let alloc = rt.alloc();
     let keys = read_keys(&FILE)?;
-    let mut ivs = IvSource::starting(0, 0, 1, 4_294_967_295);
+    let mut ivs = IvSource::starting(keys.payloads.epoch(), 0, 1, 4_294_967_295);
     let two = request_in(alloc, TWO_CREATES)?;
     let spent = veil_request(alloc, &keys, &mut ivs, 1, 99, &two).err();
     assert_eq!(rt; spent, Some(NotVeiled::Spent));
@@ -179,7 +206,7 @@ fn the_last_iv_seals_one_create_and_not_two(rt: HostRuntime) -> Result<(), Fail>
 fn each_type_is_veiled(rt: HostRuntime) -> Result<(), Fail> {
     let alloc = rt.alloc();
     let keys = read_keys(&FILE)?;
-    let mut ivs = IvSource::starting(0, 0, 1, 4_294_967_292);
+    let mut ivs = IvSource::starting(keys.payloads.epoch(), 0, 1, 4_294_967_290);
     for body in EACH_TYPE {
         let request = request_in(alloc, body)?;
         let (veiled, pending) = veil_request(alloc, &keys, &mut ivs, 3, 99, &request)?;

@@ -126,7 +126,8 @@ one_asked r a b h j = let c = some_command r a h in asked_is r a c.0 h c.1 ∙ s
 -- ---- what is kept of a request that has a command
 
 name_of : (r : CreateRequest) (p : Path) (n : List ℕ) (d : Option (List ℕ)) (q e : Bool) → IsCreate r p n d q e → IsNameOf r.flags r.path q (n ∷ p)
-name_of r p n d q e h = record { flagged = h.numbered; named = h.named }
+unfolding IsNameOf
+name_of r p n d q e h = (h.numbered, h.named)
 
 op_kept : (r : Op) (c : Change) → IsChange r c → kept.AsksOp r (op_asked c)
 unfolding kept.AsksOp IsChange op_asked

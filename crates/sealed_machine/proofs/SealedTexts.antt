@@ -102,9 +102,10 @@ pub record SealedCreate (k : EntryKeys) (r v : CreateRequest) (p : Path) (n : Li
   pub veils : VeilsCreate k p n d sequential (sealed k.names p) (SealName k.names p n) y
 
 pub same_sequential : (flags : ℤ) (text : List ℕ) (path : Path) (a b : Bool) → IsNameOf flags text a path → (IsTrue b ↔ IsSequential flags) → a ≡ b
+unfolding IsNameOf
 same_sequential flags text path true true h g = refl
-same_sequential flags text path true false h g = absurd (false≢true (g.1 (h.flagged.0 refl)))
-same_sequential flags text path false true h g = absurd (false≢true (h.flagged.1 (g.0 refl)))
+same_sequential flags text path true false h g = absurd (false≢true (g.1 (h.0.0 refl)))
+same_sequential flags text path false true h g = absurd (false≢true (h.0.1 (g.0 refl)))
 same_sequential flags text path false false h g = refl
 
 -- the path of a create on both sides
@@ -114,7 +115,8 @@ same_name text path n p true h g = one_stem_text path (n ∷ p) h.0 g.0 (sym h.1
 same_name text path n p false h g = one_text path (n ∷ p) h.legal g.legal (sym h.spelled ∙ g.spelled)
 
 pub same_named : (flags : ℤ) (text : List ℕ) (path : Path) (n : List ℕ) (p : Path) (q : Bool) → IsNameOf flags text q path → IsNamed q text (n ∷ p) → path ≡ n ∷ p
-same_named flags text path n p q h g = same_name text path n p q h.named g
+unfolding IsNameOf
+same_named flags text path n p q h g = same_name text path n p q h.1 g
 
 last_of : (text : List ℕ) (n : List ℕ) (p : Path) (q : Bool) → IsNamed q text (n ∷ p) → IsPath p × IsLast q n
 unfolding IsNamed IsLast

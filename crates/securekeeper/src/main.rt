@@ -2,15 +2,17 @@
 #![tactic(auto)]
 
 use jute_core::Memory;
-use replay_cli::{RealFiles, Status, StdSink, run};
+use replay_cli::{RealFiles, StdSink, run, say_no_memory};
 use std::process::ExitCode;
 use std::{env, io};
 
-// The words of the command line without the program's name; none where they cannot be had as texts.
+// The words of the command line without the program's name; none where they are no texts.
 fn words(rt: &HostRuntime) -> Result<Vec<String>, Memory> {
     let mut words = Vec::new(rt.alloc());
-    let Ok(args) = env::args(rt) else {
-        return Ok(words);
+    let args = match env::args(rt) {
+        Ok(args) => args,
+        Err(fault) if fault.kind() == io::ErrorKind::OutOfMemory => return Err(Memory),
+        Err(_) => return Ok(words),
     };
     for word in args.skip(1) {
         words.push(word)?;
@@ -24,7 +26,7 @@ fn main(rt: HostRuntime) -> io::Result<ExitCode> {
     let mut err = StdSink::new(rt.stderr());
     let status = match words(&rt) {
         Ok(words) => run(rt.alloc(), words.as_slice(), &mut files, &mut out, &mut err),
-        Err(_) => Status::Memory,
+        Err(_) => say_no_memory(&mut err),
     };
     Ok(ExitCode::from(status.code()))
 }

@@ -29,7 +29,8 @@ use Rattle.sealed_machine.proofs.SealedStates.{IsSealedState}
 use Rattle.sealed_machine.proofs.SealedSteps.{VeilsAct, step_sealed}
 use Rattle.sealed_machine.proofs.Connections.{to_connection-append, asked_if, asked_with, asked_in, all_asked}
 use Rattle.sealed_machine.proofs.NoTrace.{nothing_to, NoTrace, IsOthers, step_quiet}
-use Rattle.sealed_machine.proofs.FirstAnswers.{command_kept, quiet-append, IsNoConnect, step_is_quiet}
+use Rattle.sealed_machine.proofs.KeptRequests.{command_kept}
+use Rattle.sealed_machine.proofs.FirstAnswers.{quiet-append, IsNoConnect, step_is_quiet}
 use Rattle.session_law.proofs.Orders.{Entry, Connect, Take, Lost, Expire, IsAct, IsAsked, MayCome, HasSession, LegalFrom, HasNoConnect, ConnectsOnce}
 use Rattle.session_law.proofs.Filling.{items_in}
 use Rattle.sealed_machine.proofs.SealedAnswers.{asked_of}

@@ -152,7 +152,8 @@ open_or_close : (a : Command) → OpenOrClose a
 unfolding asked_of change_asked closes_it
 open_or_close close = is_close refl
 open_or_close (refused code) = is_other (other_than_close _ refl)
-open_or_close (single (create p n d q f)) = is_other (other_than_close _ refl)
+open_or_close (single (create p n d q f false)) = is_other (other_than_close _ refl)
+open_or_close (single (create p n d q f true)) = is_other (other_than_close _ refl)
 open_or_close (single (delete p v)) = is_other (other_than_close _ refl)
 open_or_close (single (set_content p d v)) = is_other (other_than_close _ refl)
 open_or_close (single (check p v)) = is_other (other_than_close _ refl)

@@ -1,6 +1,6 @@
 -- The filled order: what the clients sent in place of what the store was handed.
-use Rattle.std.proofs.Common.{◌≡◌, ℕ, zero, suc, ℤ, ◌+◌, Bool, true, false, cond, List, [], ◌∷◌, ◌++◌, length, refl, sym, ap, subst, ◌∙◌, append_assoc}
-use Rattle.std.specs.Prelude.{All, ◌==◌}
+use Rattle.std.proofs.Common.{◌≡◌, ℕ, zero, suc, ℤ, ◌+◌, Bool, true, false, cond, List, [], ◌∷◌, ◌++◌, length, refl, sym, ap, subst, ◌∙◌, append_assoc, arith}
+use Rattle.std.specs.Prelude.{All, ◌<◌, ◌==◌}
 use Rattle.std.proofs.lemmas.Bool.{eqb-true, eq-eqb}
 use Rattle.std.proofs.lemmas.List.Elements.{All-nil, All-cons, All-append}
 use Rattle.payload_seal.specs.Ivs.{Ivs, payload_iv}
@@ -11,7 +11,8 @@ use Rattle.zk_messages.specs.declared.request.Item.TheVariants as items
 use Rattle.zk_messages.specs.declared.request.Request.{Request}
 use Rattle.entry_session.proofs.OneItem.{one_item}
 use Rattle.request_rewrite.specs.Ivs.{ivs_from, iv_after}
-use Rattle.entry_session.specs.ClientTurns.{VeilsItem, source_at}
+use Rattle.sealed_machine.specs.Veils.{IsIvOf}
+use Rattle.entry_session.specs.ClientTurns.{VeilsItem, source_at, greatest_epoch}
 unfoldable pub use Rattle.entry_session.specs.Veiled.{SpellsItems}
 unfoldable pub use Rattle.entry_session.proofs.HandedUp.{VeilsUpTo}
 unfoldable pub use Rattle.session_law.specs.Fill.{FillsEntry, Fills, left_after, items_in}
@@ -26,27 +27,38 @@ SealsItem k (items.Asks asked) v = v ≡ items.Asks asked
 SealsItem k (items.Requests xid r) (items.Requests number v) = (number ≡ xid) × IsVeiled k r v
 SealsItem k i v = ⊥
 
-twelve : (boot c j : ℕ) → length (payload_iv boot c j) ≡ 12
-twelve boot c j = refl
+twelve : (epoch boot c j : ℕ) → length (payload_iv epoch boot c j) ≡ 12
+twelve epoch boot c j = refl
 
-ivs_twelve : (s : Ivs) (n : ℕ) → All (λ iv. length iv ≡ 12) (ivs_from s n)
+pub ivs_twelve : (s : Ivs) (n : ℕ) → All (λ iv. length iv ≡ 12) (ivs_from s n)
 unfolding ivs_from
 ivs_twelve s zero = All-nil (λ iv. length iv ≡ 12)
-ivs_twelve s (suc n) = All-append (λ iv. length iv ≡ 12) (ivs_from s n) (iv_after s n ∷ []) (ivs_twelve s n) (All-cons (λ iv. length iv ≡ 12) (iv_after s n) [] (twelve s.boot s.connection (s.count + n)) (All-nil (λ iv. length iv ≡ 12)))
+ivs_twelve s (suc n) = All-append (λ iv. length iv ≡ 12) (ivs_from s n) (iv_after s n ∷ []) (ivs_twelve s n) (All-cons (λ iv. length iv ≡ 12) (iv_after s n) [] (twelve s.epoch s.boot s.connection (s.count + n)) (All-nil (λ iv. length iv ≡ 12)))
 
-seals_item : (k : EntryKeys) (s : Ivs) (n : ℕ) (i v : Item) → VeilsItem k s n i v → SealsItem k i v
+one_known : (keys : List (List ℕ)) (epoch boot c j : ℕ) → epoch < length keys → IsIvOf keys (payload_iv epoch boot c j)
+one_known keys epoch boot c j h = record { size = refl; known = h }
+
+ivs_known : (keys : List (List ℕ)) (s : Ivs) (n : ℕ) → s.epoch < length keys → All (IsIvOf keys) (ivs_from s n)
+unfolding ivs_from
+ivs_known keys s zero h = All-nil (IsIvOf keys)
+ivs_known keys s (suc n) h = All-append (IsIvOf keys) (ivs_from s n) (iv_after s n ∷ []) (ivs_known keys s n h) (All-cons (IsIvOf keys) (iv_after s n) [] (one_known keys s.epoch s.boot s.connection (s.count + n) h) (All-nil (IsIvOf keys)))
+
+greatest_known : (k : EntryKeys) → 0 < length k.payloads → greatest_epoch k < length k.payloads
+greatest_known k h = omega (arith, h)
+
+seals_item : (k : EntryKeys) (boot c sealed n : ℕ) (i v : Item) → 0 < length k.payloads → VeilsItem k (source_at k boot c sealed) n i v → SealsItem k i v
 unfolding VeilsItem SealsItem
-seals_item k s n (items.Asks asked) v h = h
-seals_item k s n (items.Requests xid r) (items.Requests number v) h = (h.0, record { ivs = ivs_from s n; twelve = ivs_twelve s n; veil = h.1 })
-seals_item k s n (items.Requests xid r) v h = absurd h
+seals_item k boot c sealed n (items.Asks asked) v some h = h
+seals_item k boot c sealed n (items.Requests xid r) (items.Requests number v) some h = (h.0, record { ivs = ivs_from (source_at k boot c sealed) n; are_ivs = ivs_known k.payloads (source_at k boot c sealed) n (greatest_known k some); veil = h.1 })
+seals_item k boot c sealed n (items.Requests xid r) v some h = absurd h
 
 -- what was veiled with its IVs counted is sealed item by item
-pub all_sealed : (k : EntryKeys) (boot c sealed end : ℕ) (is vs : List Item) → VeilsUpTo k boot c sealed is vs end → Zips (SealsItem k) is vs
+pub all_sealed : (k : EntryKeys) (boot c sealed end : ℕ) (is vs : List Item) → 0 < length k.payloads → VeilsUpTo k boot c sealed is vs end → Zips (SealsItem k) is vs
 unfolding VeilsUpTo Zips
-all_sealed k boot c sealed end [] [] h = tt
-all_sealed k boot c sealed end [] (v ∷ vs) h = absurd h
-all_sealed k boot c sealed end (i ∷ is) [] h = absurd h
-all_sealed k boot c sealed end (i ∷ is) (v ∷ vs) h = (seals_item k _ h.1.count i v h.1.veils, all_sealed k boot c h.0 end is vs h.2)
+all_sealed k boot c sealed end [] [] some h = tt
+all_sealed k boot c sealed end [] (v ∷ vs) some h = absurd h
+all_sealed k boot c sealed end (i ∷ is) [] some h = absurd h
+all_sealed k boot c sealed end (i ∷ is) (v ∷ vs) some h = (seals_item k boot c sealed h.1.count i v some h.1.veils, all_sealed k boot c h.0 end is vs some h.2)
 
 -- ---- what the store took of what was handed up
 
@@ -223,3 +235,19 @@ fills_more [] sent whole more [] h e = tt
 fills_more [] sent whole more (f ∷ fs) h e = absurd h
 fills_more (x ∷ es) sent whole more [] h e = absurd h
 fills_more (x ∷ es) sent whole more (f ∷ fs) h e = (fills_first x sent whole more f h.0 e, fills_more es (left_after x sent) (left_after x whole) more fs h.1 (fills_rest x sent whole more f h.0 e))
+
+-- a filled order has as many items of each connection as the store's
+more_items : (b : Bool) (i v : Item) (is vs : List Item) → length is ≡ length vs → length (cond b (i ∷ is) is) ≡ length (cond b (v ∷ vs) vs)
+more_items true i v is vs e = ap suc e
+more_items false i v is vs e = e
+
+pub same_number : (k : EntryKeys) (c : ℕ) (es fs : List Entry) → Zips (VeilsEntry k) es fs → length (items_in c es) ≡ length (items_in c fs)
+unfolding Zips VeilsEntry items_in
+same_number k c [] [] h = refl
+same_number k c [] (f ∷ fs) h = absurd h
+same_number k c (e ∷ es) [] h = absurd h
+same_number k c (Take d xid r zxid now ∷ es) (Take d' x' v' z' n' ∷ fs) h = subst (λ (x : ℕ). length (items_in c (Take d xid r zxid now ∷ es)) ≡ length (items_in c (Take x x' v' z' n' ∷ fs))) h.0.0 (more_items (c == d) (items.Requests xid r) (items.Requests x' v') (items_in c es) (items_in c fs) (same_number k c es fs h.1))
+same_number k c (Take d xid r zxid now ∷ es) (f ∷ fs) h = absurd h.0
+same_number k c (Connect d asked session timeout password zxid now ∷ es) (f ∷ fs) h = subst (λ (x : Entry). length (items_in c (Connect d asked session timeout password zxid now ∷ es)) ≡ length (items_in c (x ∷ fs))) h.0 (more_items (c == d) (items.Asks asked) (items.Asks asked) (items_in c es) (items_in c fs) (same_number k c es fs h.1))
+same_number k c (Lost d ∷ es) (f ∷ fs) h = subst (λ (x : Entry). length (items_in c es) ≡ length (items_in c (x ∷ fs))) h.0 (same_number k c es fs h.1)
+same_number k c (Expire session zxid now ∷ es) (f ∷ fs) h = subst (λ (x : Entry). length (items_in c es) ≡ length (items_in c (x ∷ fs))) h.0 (same_number k c es fs h.1)

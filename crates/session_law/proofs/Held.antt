@@ -38,9 +38,9 @@ deleted_keeps : (z : ℤ) (p : Path) (s : State) → (deleted z p s).state.sessi
 unfolding deleted
 deleted_keeps z p s = refl
 
-created_keeps : (at : Moment) (p : Path) (n : List ℕ) (node : Node) (s : State) → (created at p n node s).state.sessions ≡ s.sessions
+created_keeps : (at : Moment) (p : Path) (n : List ℕ) (node : Node) (stat : Bool) (s : State) → (created at p n node stat s).state.sessions ≡ s.sessions
 unfolding created
-created_keeps at p n node s = refl
+created_keeps at p n node stat s = refl
 
 updated_keeps : (at : Moment) (p : Path) (d : Option (List ℕ)) (node : Node) (s : State) → (updated at p d node s).state.sessions ≡ s.sessions
 unfolding updated
@@ -48,7 +48,7 @@ updated_keeps at p d node s = refl
 
 perform_keeps : (naming : Naming) (at : Moment) (s : State) (change : Change) → KeepsIf s (perform naming at s change)
 unfolding perform
-perform_keeps naming at s (create p n d q e) = need_keeps s (find s.nodes p) _ _ λ up. refuse_keeps s _ _ _ (refuse_keeps s _ _ _ (need_keeps s _ _ _ λ name. refuse_keeps s _ _ _ (done_keeps s _ (created_keeps at p name _ s))))
+perform_keeps naming at s (create p n d q e stat) = need_keeps s (find s.nodes p) _ _ λ up. refuse_keeps s _ _ _ (refuse_keeps s _ _ _ (need_keeps s _ _ _ λ name. refuse_keeps s _ _ _ (done_keeps s _ (created_keeps at p name _ stat s))))
 perform_keeps naming at s (delete p v) = need_keeps s (find s.nodes p) _ _ λ node. refuse_keeps s _ _ _ (refuse_keeps s _ _ _ (done_keeps s _ (deleted_keeps at.zxid p s)))
 perform_keeps naming at s (set_content p d v) = need_keeps s (find s.nodes p) _ _ λ node. refuse_keeps s _ _ _ (refuse_keeps s _ _ _ (done_keeps s _ (updated_keeps at p d node s)))
 perform_keeps naming at s (check p v) = need_keeps s (find s.nodes p) _ _ λ node. refuse_keeps s _ _ _ (done_keeps s _ refl)

@@ -50,7 +50,7 @@ take_act k w c d xid other r v zxid now at then_ g ec ex h en a =
     record {
       act = asking c xid p.0 now;
       is = record { command = p.0; is_command = p.1; is = refl };
-      veils = subst (λ (x : Act). VeilsAct k (asking c xid p.0 now) x) (sym a.is) (ec, ex, veiled_command k w h.ivs r v p.0 a.command h.twelve h.veil p.1 a.is_command, en);
+      veils = subst (λ (x : Act). VeilsAct k (asking c xid p.0 now) x) (sym a.is) (ec, ex, veiled_command k w h.ivs r v p.0 a.command h.are_ivs h.veil p.1 a.is_command, en);
     }
 
 pub plain_act : (k : EntryKeys) → AreKeys k.names → (e f : Entry) (g : Act) → VeilsEntry k e f → IsAct f g → PlainAct k e g
@@ -126,22 +126,22 @@ same_last k (Lost c) f last i l = tt
 same_last k (Expire session zxid now) f last i l = subst (λ (x : Entry). HasLast x last) (sym i) l
 
 -- the filled order may come where the store's does
-pub legal_sim : (k : EntryKeys) (w : AreKeys k.names) (naming : Naming) (names : IsNaming (IsSealedName k.names) naming) (passwords : ℤ → List ℕ) (es fs : List Entry) (as_ gs : List Act) (s t : State)
+pub legal_filled : (k : EntryKeys) (w : AreKeys k.names) (naming : Naming) (names : IsNaming (IsSealedName k.names) naming) (passwords : ℤ → List ℕ) (es fs : List Entry) (as_ gs : List Act) (s t : State)
     → Zips (VeilsEntry k) es fs → Zips (VeilsAct k) as_ gs → IsSealedState k s t → LegalFrom naming passwords t fs gs → LegalFrom plain passwords s es as_
 unfolding LegalFrom Zips
-legal_sim k w naming names passwords [] [] [] [] s t i v h l = tt
-legal_sim k w naming names passwords [] [] [] (g ∷ gs) s t i v h l = absurd v
-legal_sim k w naming names passwords [] [] (a ∷ as_) [] s t i v h l = absurd v
-legal_sim k w naming names passwords [] [] (a ∷ as_) (g ∷ gs) s t i v h l = absurd l
-legal_sim k w naming names passwords [] (f ∷ fs) as_ gs s t i v h l = absurd i
-legal_sim k w naming names passwords (e ∷ es) [] as_ gs s t i v h l = absurd i
-legal_sim k w naming names passwords (e ∷ es) (f ∷ fs) [] [] s t i v h l = absurd l
-legal_sim k w naming names passwords (e ∷ es) (f ∷ fs) [] (g ∷ gs) s t i v h l = absurd v
-legal_sim k w naming names passwords (e ∷ es) (f ∷ fs) (a ∷ as_) [] s t i v h l = absurd v
-legal_sim k w naming names passwords (e ∷ es) (f ∷ fs) (a ∷ as_) (g ∷ gs) s t i v h l =
+legal_filled k w naming names passwords [] [] [] [] s t i v h l = tt
+legal_filled k w naming names passwords [] [] [] (g ∷ gs) s t i v h l = absurd v
+legal_filled k w naming names passwords [] [] (a ∷ as_) [] s t i v h l = absurd v
+legal_filled k w naming names passwords [] [] (a ∷ as_) (g ∷ gs) s t i v h l = absurd l
+legal_filled k w naming names passwords [] (f ∷ fs) as_ gs s t i v h l = absurd i
+legal_filled k w naming names passwords (e ∷ es) [] as_ gs s t i v h l = absurd i
+legal_filled k w naming names passwords (e ∷ es) (f ∷ fs) [] [] s t i v h l = absurd l
+legal_filled k w naming names passwords (e ∷ es) (f ∷ fs) [] (g ∷ gs) s t i v h l = absurd v
+legal_filled k w naming names passwords (e ∷ es) (f ∷ fs) (a ∷ as_) [] s t i v h l = absurd v
+legal_filled k w naming names passwords (e ∷ es) (f ∷ fs) (a ∷ as_) (g ∷ gs) s t i v h l =
     let n = step_sealed k w naming names s t a g v.0 h in (
       record { may = may_come k passwords s t e f h i.0 l.0.may; last_is = subst (HasLast e) (sym n.state.last) (same_last k e f _ i.0 l.0.last_is) },
-      legal_sim k w naming names passwords es fs as_ gs _ _ i.1 v.1 n.state l.1,
+      legal_filled k w naming names passwords es fs as_ gs _ _ i.1 v.1 n.state l.1,
     )
 
 -- ---- each connection connects once

@@ -16,6 +16,7 @@ use Rattle.tree_state.specs.Trees.{IsNaming}
 use Rattle.tree_state.specs.Plain.{plain}
 use Rattle.tree_state.specs.Changes.{Naming}
 use Rattle.tree_state.specs.Step.{Act}
+use Rattle.sealed_machine.specs.Veils.{IsIvOf}
 use Rattle.tree_server.specs.Zips.{Zips}
 use Rattle.tree_server.specs.Messages.{Messages}
 use Rattle.tree_server.specs.Out.{out}
@@ -108,10 +109,10 @@ EndsInClose [] = ⊥
 EndsInClose (Requests xid Close ∷ []) = Unit {0}
 EndsInClose (item ∷ items) = EndsInClose items
 
--- the request is sealed under some IVs
+-- the request is sealed under IVs, each of an epoch that has a key
 pub record IsVeiled (k : EntryKeys) (plain veiled : Request) : Type 0 where
   pub ivs : List (List ℕ)
-  pub twelve : All (λ iv. length iv ≡ 12) ivs
+  pub are_ivs : All (IsIvOf k.payloads) ivs
   pub veil : Veil k ivs plain veiled
 
 -- a plain entry, and the store's: the request of a Take is veiled, and all else is the same
@@ -156,6 +157,6 @@ pub record Headline (k : EntryKeys) (boot : ℕ) (passwords : ℤ → List ℕ) 
 -- For every store that follows the machine with the names of a counter enclave under the same keys, and every connection joined to it.
 abbrev pub HoldsOverSessions : Type 0
 HoldsOverSessions = (k : EntryKeys) (boot : ℕ) (naming : Naming) (passwords : ℤ → List ℕ) (past : Past) (x : ℕ → Connection) (items : ℕ → List Item) (under_way unfed : ℕ → List ℕ)
-    → AreKeys k.names → IsNaming (IsSealedName k.names) naming → Follows naming passwords past
+    → AreKeys k.names → 0 < length k.payloads → IsNaming (IsSealedName k.names) naming → Follows naming passwords past
     → ((c : ℕ) → IsJoined k boot c past (x c) (items c) (under_way c) (unfed c))
     → Headline k boot passwords past x items under_way unfed

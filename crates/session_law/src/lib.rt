@@ -3,3 +3,7 @@
 //!
 //! Read `specs/Law.antt` first, then `specs/Fill.antt`.
 #![tactic(auto)]
+
+mod laws;
+
+pub use laws::holds_over_sessions;

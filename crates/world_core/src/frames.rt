@@ -6,7 +6,7 @@ ghost use Rattle.zk_messages.specs.Sent.{client_limit, HasNoFrame};
 ghost use Rattle.world_core.specs.Prefixes.{IsLength};
 
 /// The most bytes of a client's frame.
-const CLIENT_LIMIT: usize = 1_048_575;
+const CLIENT_LIMIT: usize = 4_194_303;
 
 // The length that four bytes spell, if it is not negative.
 fn length_of(prefix: &[u8]) -> Option<usize>

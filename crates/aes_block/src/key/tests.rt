@@ -1,4 +1,5 @@
 use super::*;
+use crate::round::{add_round_key, last_round as plain_last_round, middle_round as plain_round};
 
 // Key, block and result: FIPS 197, B and C.1; NIST SP 800-38A, F.1.1; and further values that were
 // computed by other programs.
@@ -47,9 +48,30 @@ fn encrypts_known_blocks(rt: HostRuntime) {
 #[test]
 fn expands_the_standards_key(rt: HostRuntime) {
     let key = Key::new(0x2b7e151628aed2a6abf7158809cf4f3cu128.to_be_bytes());
-    let zero = [0; 16];
-    let first = add_round_key(zero, &key.words, 1);
-    let last = add_round_key(zero, &key.words, 10);
-    assert!(rt; first == 0xa0fafe1788542cb123a339392a6c7605u128.to_be_bytes());
-    assert!(rt; last == 0xd014f9a8c9ee2589e13f0cc8b6630ca6u128.to_be_bytes());
+    assert!(rt; key.words[4..8] == [0xa0fafe17, 0x88542cb1, 0x23a33939, 0x2a6c7605]);
+    assert!(rt; key.words[40..] == [0xd014f9a8, 0xc9ee2589, 0xe13f0cc8, 0xb6630ca6]);
+}
+
+// The rounds by tables, and those that are written as the standard writes them.
+#[test]
+fn tables_do_what_the_plain_rounds_do(rt: HostRuntime) {
+    let mut block = [0; 16];
+    for n in 0..50u8 {
+        let key = [n; 16];
+        let plain = encrypt_plainly(key, block);
+        let encrypted = Key::new(key).encrypt(block);
+        assert!(rt; encrypted == plain);
+        block = encrypted;
+    }
+}
+
+// AES, round after round on bytes.
+fn encrypt_plainly(key: [u8; 16], block: [u8; 16]) -> [u8; 16] {
+    let words = expand(&key);
+    let mut state = add_round_key(block, &words, 0);
+    for n in 0..9 {
+        let next = plain_round(state, &words, n + 1);
+        state = next;
+    }
+    plain_last_round(state, &words)
 }

@@ -5,7 +5,7 @@ use Rattle.path_seal.proofs.Walk.{IsSealedTo}
 use Rattle.path_seal.proofs.sealing.seal_path.Given as goal
 
 abbrev pub invariant-loop-name : goal.invariant-loop-name
-invariant-loop-name l = shadow (Utf8 l.rest) × IsSealedTo l.keys l.text l.rest (string_bytes l.sealed)
+invariant-loop-name l = shadow (Utf8 l.rest) × IsSealedTo l.keys l.path l.rest (string_bytes l.sealed) l.under
 
 abbrev pub decreases-loop-name : goal.decreases-loop-name
 decreases-loop-name l = length l.rest

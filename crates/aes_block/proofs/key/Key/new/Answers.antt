@@ -1,29 +1,12 @@
-use Rattle.std.proofs.Common.{rules, ◌≡◌, ◌∙◌, ◌*◌, ℕ, List, ap, sym, arith, take, length}
-use Rattle.aes_block.specs.Aes.{expanded}
-use Rattle.aes_block.proofs.Words.{front_size, kept_size, expanded_more, front_words, all_words, take-expanded}
+use Rattle.std.proofs.Common.{◌≡◌, List, ℕ, length, ap, ◌∙◌, rules}
+use Rattle.aes_block.specs.Aes.{round_key}
+use Rattle.aes_block.specs.Columns.{words_of}
+use Rattle.aes_block.proofs.Columns.{round_is}
 use Rattle.aes_block.proofs.key.Key.new.Goals as goal
-
-pub loop-i-init : goal.loop-i-init
-loop-i-init c = record {
-  size = front_size c.copy_from_slice.new.self c.copy_from_slice.ensures.len;
-  filled = rw c.copy_from_slice.ensures.after (front_words c.args.bytes _ (search rules));
-}
-
-pub loop-i-preserved : goal.loop-i-preserved
-loop-i-preserved c = record {
-  size = kept_size c.loop-i.words c.copy_from_slice-in-loop-i.new.self (4 * c.loop-i.i) _ c.loop-i.invariant.size (search rules) (omega arith) (omega arith);
-  filled = rw c.copy_from_slice-in-loop-i.ensures.after
-      (expanded_more c.loop-i.words c.args.bytes _ c.loop-i.i _ (omega arith) (omega arith) c.loop-i.invariant.size c.loop-i.invariant.filled c.next_word-word.ensures);
-}
 
 pub invariant_of-result : goal.invariant_of-result
 invariant_of-result c =
-    let all : c.loop-i.words ≡ expanded c.args.bytes 40 = all_words c.loop-i.words c.args.bytes c.loop-i.i c.loop-i.invariant.size (omega arith) c.loop-i.invariant.filled in
-    let len : length c.args.bytes ≡ 16 = search rules in
-    all ∙ ap (λ (k : List ℕ). expanded k 40) (sym (take-expanded c.args.bytes 40 len) ∙ ap (λ (w : List ℕ). take 16 w) (sym all))
-
-pub returns : goal.returns
-returns c =
-    let all : c.loop-i.words ≡ expanded c.args.bytes 40 = all_words c.loop-i.words c.args.bytes c.loop-i.i c.loop-i.invariant.size (omega arith) c.loop-i.invariant.filled in
-    let len : length c.args.bytes ≡ 16 = search rules in
-    ap (λ (w : List ℕ). take 16 w) all ∙ take-expanded c.args.bytes 40 len
+    let len : length c.expand.result ≡ 176 = search rules in (
+      c.words-words.ensures.of ∙ ap (λ (b : List ℕ). words_of b 44) c.expand.ensures,
+      λ n lt. round_is c.words-words.result c.expand.result n lt len c.words-words.ensures.back ∙ ap (λ (b : List ℕ). round_key b n) c.expand.ensures,
+    )

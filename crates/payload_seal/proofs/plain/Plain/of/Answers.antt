@@ -1,10 +1,9 @@
-use Rattle.std.proofs.Common.{drop, get_or, refl, length-drop, arith}
-use Rattle.std.proofs.lemmas.List.{take_all}
+use Rattle.std.proofs.Common.{rules, ℕ, List, take, drop, ap, ◌∙◌, arith}
 use Rattle.payload_seal.proofs.Opened.{reads_plain, first_item}
 use Rattle.payload_seal.proofs.plain.Plain.of.Goals as goal
 
 pub returns : goal.returns
 returns c =
-    let bytes = c.args.bytes.now in
-    reads_plain bytes c.bytes_at.result _ (get_or bytes 0 0) (first_item bytes (get_or bytes 0 0) (omega (arith, c.requires)) refl)
-    c.bytes_at.ensures (take_all _ (drop 33 bytes) (omega (arith, length-drop 33 bytes))) c.requires
+    let bytes = c.args.bytes.items in
+    reads_plain bytes c.bytes_at-digest.result _ c.index-flag.result.now (first_item bytes c.index-flag.result.now (omega (arith, c.requires)) (search rules))
+    (c.bytes_at-digest.ensures ∙ ap (λ (l : List ℕ). take 32 (drop 1 l)) c.as_slice.ensures.value) c.without_head.ensures c.requires
