@@ -1,9 +1,8 @@
 -- Each answer of the plain machine fits a frame where what a store tells was written.
-use Rattle.std.proofs.Common.{◌≡◌, ℕ, Bool, true, false, cond, List, [], ◌∷◌, ◌++◌, refl, sym, ap, subst}
+use Rattle.std.proofs.Common.{◌≡◌, ℕ, Bool, true, false, cond, List, [], ◌∷◌, refl}
 use Rattle.std.specs.Prelude.{All, ◌==◌}
 use Rattle.std.proofs.lemmas.List.Elements.{All-nil, All-cons, All-head, All-tail}
 use Rattle.std.proofs.lemmas.Bool.{eq-eqb}
-use Rattle.payload_seal.specs.declared.keys.EntryKeys.{EntryKeys}
 use Rattle.tree_state.specs.declared.message.Message.{Message}
 use Rattle.tree_state.specs.declared.message.Message.TheVariants as messages
 use Rattle.tree_state.specs.declared.message.Output.{Output}

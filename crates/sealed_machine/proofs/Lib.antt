@@ -18,6 +18,7 @@ pub mod ShorterNames
 pub mod ShorterReplies
 pub mod RefusalCodes
 pub mod AnswersFit
+pub mod QuietChanges
 pub mod NoTrace
 pub mod FirstAnswers
 pub mod EachLaw

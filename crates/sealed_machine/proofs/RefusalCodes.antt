@@ -1,5 +1,5 @@
 -- The code of a refusal can stand in a reply: it is an int, and not 0.
-use Rattle.std.proofs.Common.{◌≡◌, ◌≢◌, ◌<◌, ◌^◌, ℕ, ℤ, pos, negsuc, Bool, true, false, List, [], ◌∷◌, ◌++◌, Option, Some, None, inl, inr, refl, sym, ap, subst, ◌∙◌, arith}
+use Rattle.std.proofs.Common.{◌≡◌, ◌≢◌, ◌<◌, ℕ, ℤ, pos, negsuc, Bool, true, false, List, [], ◌∷◌, ◌++◌, Option, Some, None, inl, inr, sym, subst, arith}
 use Rattle.std.proofs.lemmas.Int.{ints}
 use Rattle.std.specs.Int.{w32}
 use Rattle.std.specs.Int.RustNames.{FitsSigned}
@@ -12,8 +12,8 @@ use Rattle.zk_messages.specs.declared.request.Request.TheVariants as requests
 use Rattle.tree_state.specs.State.{State, session_of}
 use Rattle.tree_state.specs.Commands.{Change, create, delete, set_content, check, Command, refused, single, multi, set_acl, stat_at, get_content, get_acl, get_children, sync, ping, set_watches, close, Asks, IsCommand}
 use Rattle.tree_state.specs.Plain.{plain}
-use Rattle.tree_state.specs.Step.{Act, connects, asks as asking, loses, expires, step}
-use Rattle.tree_server.specs.Acts.{IsAsked, IsAct}
+use Rattle.tree_state.specs.Step.{Act, step}
+use Rattle.tree_server.specs.Acts.{IsAct}
 use Rattle.tree_server.specs.Zips.{Zips}
 use Rattle.tree_server.specs.declared.entry.Entry.{Entry}
 use Rattle.tree_server.specs.declared.entry.Entry.TheVariants.{Connect, Take, Lost, Expire}

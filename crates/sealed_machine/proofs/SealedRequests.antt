@@ -1,40 +1,33 @@
 -- The veiled form of a request asks for the sealed form of its command.
-use Rattle.std.proofs.Common.{◌≡◌, ◌⊎◌, ◌↔◌, ℕ, ℤ, pos, Bool, true, false, IsTrue, List, [], ◌∷◌, ◌++◌, Option, Some, None, length, inl, inr, refl, sym, ap, subst, ◌∙◌}
+use Rattle.std.proofs.Common.{◌≡◌, ℕ, ℤ, true, false, List, [], ◌∷◌, ◌++◌, Option, Some, None, inl, inr, refl, sym, subst, ◌∙◌}
 use Rattle.std.specs.Prelude.{All}
 use Rattle.std.specs.List.{AllZip}
-use Rattle.std.proofs.lemmas.Bool.{false≢true}
 use Rattle.std.proofs.lemmas.List.Elements.{All-nil, All-cons, All-head, All-tail}
-use Rattle.zk_path.specs.Paths.{IsComponent, IsPath, IsPathText, text_of, IsTextOf, IsNamed}
-use Rattle.zk_path.proofs.Judged.{one_text, one_stem_text}
-use Rattle.zk_path.proofs.Numbered.{is_numbered}
+use Rattle.zk_path.specs.Paths.{IsComponent, IsPathText}
+use Rattle.zk_path.proofs.Judged.{one_text}
 use Rattle.path_seal.specs.Sealed.{Keys, AreKeys, SealName, sealed}
-use Rattle.payload_seal.specs.Payload.{SealData, Accepts}
+use Rattle.payload_seal.specs.Payload.{SealData}
 use Rattle.payload_seal.specs.declared.keys.EntryKeys.{EntryKeys}
-use Rattle.payload_seal.proofs.Judged.{accepted_when_sealed, accepted_when_numbered}
 use Rattle.zk_records.specs.declared.create.CreateRequest.{CreateRequest}
-use Rattle.zk_records.specs.declared.acl.Acl.{Acl}
-use Rattle.zk_messages.specs.Refuses.{Rule, IsRootText, IsNameFor, AreFlags, IsOpen, Refuses, RefusesOp, RefusesOps, RefusesPath, RefusesNode, RefusesCreate, IsSequential}
+use Rattle.zk_messages.specs.Refuses.{Refuses, RefusesOp, RefusesOps, RefusesCreate}
 use Rattle.zk_messages.specs.declared.request.Op.{Op}
 use Rattle.zk_messages.specs.declared.request.Op.TheVariants as ops
 use Rattle.zk_messages.specs.declared.request.Request.{Request}
 use Rattle.zk_messages.specs.declared.request.Request.TheVariants as requests
-use Rattle.zk_messages.proofs.Allowed.{not_root, not_first, create_open, acl_open, ops_allowed}
-use Rattle.watch_rewrite.specs.Watches.{SealsText, SealsTexts, SealsList}
-use Rattle.request_rewrite.specs.Names.{IsNameOf, SealNameOf}
+use Rattle.zk_messages.proofs.Allowed.{acl_open, ops_allowed}
+use Rattle.watch_rewrite.specs.Watches.{SealsTexts, SealsList}
 use Rattle.request_rewrite.specs.Veil.{VeilsCreate as TextCreate, VeilsOp, VeilsOps, Veils, Veil, stand_in}
-use Rattle.tree_state.specs.Nodes.{Path}
-use Rattle.tree_state.specs.Commands.{Change, create, delete, set_content, check, Command, refused, single, multi, set_acl, stat_at, get_content, get_acl, get_children, sync, ping, set_watches, close, AreTextsOf, IsCreate, IsChange, Asks, IsCommand}
+use Rattle.tree_state.specs.Commands.{Change, create, delete, set_content, check, Command, refused, single, multi, set_acl, stat_at, get_content, get_acl, get_children, sync, ping, set_watches, close, IsChange, Asks, IsCommand}
 use Rattle.tree_state.proofs.OneCommand.{one_command}
 use Rattle.tree_state.proofs.Serving as serving
 use Rattle.std.proofs.lemmas.Option.{none-some}
 use Rattle.zk_messages.specs.Refuses.{ArePaths}
 use Rattle.zk_messages.proofs.FirstRules.{one_outcome}
 use Rattle.tree_server.proofs.Zipping.{Zips}
-use Rattle.sealed_machine.proofs.SealedNames.{sealed_legal, sealed_stem}
-use Rattle.sealed_machine.proofs.SealedStates.{Holds, Seals}
-use Rattle.sealed_machine.proofs.SealedChanges.{IsLast, IsGiven, VeilsChange, VeilsCreate}
-use Rattle.sealed_machine.proofs.SealedAnswers.{IsBelow, VeilsCommand}
-use Rattle.sealed_machine.proofs.SealedTexts.{IsIvOf, IsSealedText, SealedCreate, text_pair, list_pair, holds_below, not_below_root, sealed_create, rule_passes, text_of_root, path_text, path_allows, open_same, node_allows, create_allows}
+use Rattle.sealed_machine.proofs.SealedNames.{sealed_legal}
+use Rattle.sealed_machine.proofs.SealedChanges.{VeilsChange}
+use Rattle.sealed_machine.proofs.SealedAnswers.{VeilsCommand}
+use Rattle.sealed_machine.proofs.SealedTexts.{IsIvOf, text_pair, list_pair, holds_below, not_below_root, sealed_create, rule_passes, text_of_root, path_text, path_allows, open_same, node_allows, create_allows}
 
 -- ---- operations of a multi
 

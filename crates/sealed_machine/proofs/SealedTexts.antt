@@ -1,5 +1,5 @@
 -- From the texts of a request and of its veiled form to paths, contents and creates.
-use Rattle.std.proofs.Common.{◌≡◌, ◌⊎◌, ◌↔◌, ℕ, ℤ, pos, Bool, true, false, IsTrue, List, [], ◌∷◌, ◌++◌, Option, Some, None, length, inl, inr, refl, sym, ap, subst, ◌∙◌}
+use Rattle.std.proofs.Common.{◌≡◌, ◌⊎◌, ◌↔◌, ℕ, ℤ, pos, Bool, true, false, IsTrue, List, [], ◌∷◌, Option, Some, None, inl, inr, refl, sym, ap, subst, ◌∙◌}
 use Rattle.std.specs.Prelude.{All}
 use Rattle.std.specs.List.{AllZip}
 use Rattle.std.proofs.lemmas.Bool.{false≢true}
@@ -13,26 +13,17 @@ use Rattle.payload_seal.specs.declared.keys.EntryKeys.{EntryKeys}
 use Rattle.payload_seal.proofs.Judged.{accepted_when_sealed, accepted_when_numbered}
 use Rattle.zk_records.specs.declared.create.CreateRequest.{CreateRequest}
 use Rattle.zk_records.specs.declared.acl.Acl.{Acl}
-use Rattle.zk_messages.specs.Refuses.{Rule, IsRootText, IsNameFor, AreFlags, IsOpen, Refuses, RefusesOp, RefusesOps, RefusesPath, RefusesNode, RefusesCreate, IsSequential}
-use Rattle.zk_messages.specs.declared.request.Op.{Op}
-use Rattle.zk_messages.specs.declared.request.Op.TheVariants as ops
-use Rattle.zk_messages.specs.declared.request.Request.{Request}
-use Rattle.zk_messages.specs.declared.request.Request.TheVariants as requests
-use Rattle.zk_messages.proofs.Allowed.{not_root, not_first, create_open, acl_open, ops_allowed}
+use Rattle.zk_messages.specs.Refuses.{Rule, IsRootText, IsNameFor, AreFlags, IsOpen, RefusesPath, RefusesNode, RefusesCreate, IsSequential}
+use Rattle.zk_messages.proofs.Allowed.{not_root, not_first, create_open}
 use Rattle.watch_rewrite.specs.Watches.{SealsText, SealsTexts, SealsList}
 use Rattle.request_rewrite.specs.Names.{IsNameOf, SealNameOf}
-use Rattle.request_rewrite.specs.Veil.{VeilsCreate as TextCreate, VeilsOp, VeilsOps, Veils, Veil, stand_in}
+use Rattle.request_rewrite.specs.Veil.{VeilsCreate as TextCreate}
 use Rattle.tree_state.specs.Nodes.{Path}
-use Rattle.tree_state.specs.Commands.{Change, create, delete, set_content, check, Command, refused, single, multi, set_acl, stat_at, get_content, get_acl, get_children, sync, ping, set_watches, close, AreTextsOf, IsCreate, IsChange, Asks, IsCommand}
-use Rattle.tree_state.proofs.OneCommand.{one_command}
-use Rattle.tree_state.proofs.Serving as serving
-use Rattle.std.proofs.lemmas.Option.{none-some}
-use Rattle.zk_messages.specs.Refuses.{ArePaths}
-use Rattle.zk_messages.proofs.FirstRules.{one_outcome}
+use Rattle.tree_state.specs.Commands.{AreTextsOf, IsCreate}
 use Rattle.tree_server.proofs.Zipping.{Zips}
 use Rattle.sealed_machine.proofs.SealedNames.{sealed_child, stem_text, sealed_legal, sealed_stem}
 use Rattle.sealed_machine.proofs.SealedStates.{Holds, Seals}
-use Rattle.sealed_machine.proofs.SealedChanges.{IsLast, IsGiven, VeilsChange, VeilsCreate}
+use Rattle.sealed_machine.proofs.SealedChanges.{IsLast, IsGiven, VeilsCreate}
 unfoldable pub use Rattle.sealed_machine.specs.Veils.{IsBelow}
 pub use Rattle.sealed_machine.specs.Veils.{IsIvOf}
 

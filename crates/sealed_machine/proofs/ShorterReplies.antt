@@ -1,5 +1,5 @@
 -- The plain messages can be written where the store's can, each in a frame that is no longer.
-use Rattle.std.proofs.Common.{◌≡◌, ◌≢◌, ◌<◌, ◌≤◌, ◌+◌, ◌^◌, ℕ, ℤ, pos, negsuc, Bool, true, false, List, [], ◌∷◌, ◌++◌, Option, Some, None, length, inl, inr, refl, sym, ap, subst, ◌∙◌, arith, length-append}
+use Rattle.std.proofs.Common.{◌≡◌, ◌≢◌, ◌≤◌, ◌+◌, ℕ, ℤ, pos, negsuc, Bool, true, false, List, [], ◌∷◌, ◌++◌, None, length, inl, inr, refl, sym, ap, subst, arith, length-append}
 use Rattle.std.proofs.lemmas.Int.{ints}
 use Rattle.std.specs.Int.{w32}
 use Rattle.std.specs.Int.RustNames.{FitsSigned}
@@ -16,10 +16,9 @@ use Rattle.zk_records.specs.Headers.{reply_header}
 use Rattle.zk_records.specs.Stats.{stat, stat_fields}
 use Rattle.zk_records.specs.Acls.{acls, acls_fields}
 use Rattle.zk_messages.specs.Forms.{SpellsForm}
-use Rattle.zk_messages.specs.Multi.{multi_header, SpellsResult, SpellsResults, IsEnd}
-use Rattle.zk_messages.specs.Reading.{Ended}
+use Rattle.zk_messages.specs.Multi.{multi_header, SpellsResult, SpellsResults}
 use Rattle.zk_messages.specs.Sending.{AddsBytes}
-use Rattle.zk_messages.specs.Replies.{HasShape, SpellsOutcome, IsOutcome, SpellsReply, IsReply, SpellsEvent, err_of, event_record, event_fields}
+use Rattle.zk_messages.specs.Replies.{SpellsOutcome, IsOutcome, IsReply, SpellsEvent, err_of, event_record, event_fields}
 use Rattle.zk_messages.specs.declared.reply.Event.{Event}
 use Rattle.zk_messages.specs.declared.reply.OpResult.{OpResult}
 use Rattle.zk_messages.specs.declared.reply.OpResult.TheVariants as results

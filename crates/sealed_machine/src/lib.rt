@@ -12,4 +12,6 @@
 
 mod laws;
 
-pub use laws::{fits_plain, keeps_what_is_asked, sealed_naming, stays_in_step, veils_what_is_asked};
+pub use laws::{
+    fits_plain, keeps_what_is_asked, sealed_naming, stays_in_step, veils_what_is_asked,
+};
