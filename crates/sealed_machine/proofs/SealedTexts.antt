@@ -34,36 +34,36 @@ pub record IsSealedText (k : Keys) (p : Path) (v : List ℕ) : Type 0 where
   pub seals : Seals k p (sealed k p)
   pub asked : IsTextOf v (sealed k p)
 
-pub text_pair : (k : Keys) → AreKeys k → (text v : List ℕ) (p : Path) → IsTextOf text p → SealsText k text v → IsSealedText k p v
-text_pair k w text v p t s =
+pub text_sealed : (k : Keys) → AreKeys k → (text v : List ℕ) (p : Path) → IsTextOf text p → SealsText k text v → IsSealedText k p v
+text_sealed k w text v p t s =
     let same : s.path ≡ p = one_text s.path p s.named.legal t.legal (sym s.named.spelled ∙ t.spelled) in
     record {
       seals = record { legal = t.legal; is = refl };
       asked = record { legal = sealed_legal k p w t.legal; spelled = s.is_sealed ∙ ap (λ (x : Path). text_of (sealed k x)) same };
     }
 
-texts_pair : (k : Keys) → AreKeys k → (texts vs : List (List ℕ)) (ps : List Path) → AllZip IsTextOf texts ps → SealsTexts k texts vs → (qs : List Path) × AllZip IsTextOf vs qs × Zips (Seals k) ps qs
+texts_sealed : (k : Keys) → AreKeys k → (texts vs : List (List ℕ)) (ps : List Path) → AllZip IsTextOf texts ps → SealsTexts k texts vs → (qs : List Path) × AllZip IsTextOf vs qs × Zips (Seals k) ps qs
 unfolding Zips
-texts_pair k w [] [] [] t s = ([], tt, tt)
-texts_pair k w [] [] (p ∷ ps) t s = absurd t
-texts_pair k w [] (v ∷ vs) ps t s = absurd s
-texts_pair k w (x ∷ texts) [] ps t s = absurd s
-texts_pair k w (x ∷ texts) (v ∷ vs) [] t s = absurd t
-texts_pair k w (x ∷ texts) (v ∷ vs) (p ∷ ps) t s =
-    let one = text_pair k w x v p t.0 s.0 in
-    let more = texts_pair k w texts vs ps t.1 s.1 in
+texts_sealed k w [] [] [] t s = ([], tt, tt)
+texts_sealed k w [] [] (p ∷ ps) t s = absurd t
+texts_sealed k w [] (v ∷ vs) ps t s = absurd s
+texts_sealed k w (x ∷ texts) [] ps t s = absurd s
+texts_sealed k w (x ∷ texts) (v ∷ vs) [] t s = absurd t
+texts_sealed k w (x ∷ texts) (v ∷ vs) (p ∷ ps) t s =
+    let one = text_sealed k w x v p t.0 s.0 in
+    let more = texts_sealed k w texts vs ps t.1 s.1 in
     (sealed k p ∷ more.0, (one.asked, more.1), (one.seals, more.2))
 
 nil_zip : (k : Keys) (ps : List Path) → ps ≡ [] → Zips (Seals k) ps []
 unfolding Zips
 nil_zip k ps e = subst (λ (x : List Path). Zips (Seals k) x []) (sym e) tt
 
-pub list_pair : (k : Keys) → AreKeys k → (texts vs : Option (List (List ℕ))) (ps : List Path) → AreTextsOf texts ps → SealsList k texts vs → (qs : List Path) × AreTextsOf vs qs × Zips (Seals k) ps qs
+pub list_sealed : (k : Keys) → AreKeys k → (texts vs : Option (List (List ℕ))) (ps : List Path) → AreTextsOf texts ps → SealsList k texts vs → (qs : List Path) × AreTextsOf vs qs × Zips (Seals k) ps qs
 unfolding AreTextsOf
-list_pair k w None None ps t s = ([], refl, nil_zip k ps t)
-list_pair k w None (Some vs) ps t s = absurd s
-list_pair k w (Some texts) None ps t s = absurd s
-list_pair k w (Some texts) (Some vs) ps t s = texts_pair k w texts vs ps t s
+list_sealed k w None None ps t s = ([], refl, nil_zip k ps t)
+list_sealed k w None (Some vs) ps t s = absurd s
+list_sealed k w (Some texts) None ps t s = absurd s
+list_sealed k w (Some texts) (Some vs) ps t s = texts_sealed k w texts vs ps t s
 
 -- ---- contents
 
