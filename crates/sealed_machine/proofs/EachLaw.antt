@@ -1,9 +1,7 @@
 -- The laws, each from the lemma that proves it.
-use Rattle.std.proofs.Common.{refl, subst, sym}
+use Rattle.std.proofs.Common.{subst, sym}
 use Rattle.request_queue.specs.declared.asked.Asked.{Asked}
 use Rattle.request_rewrite.specs.Asks as kept
-use Rattle.zk_messages.specs.declared.request.Request.{Request}
-use Rattle.tree_state.specs.Commands.{Command, IsCommand}
 use Rattle.sealed_machine.specs.Laws.{VeilsWhatIsAsked, KeepsWhatIsAsked, StaysInStep}
 use Rattle.sealed_machine.proofs.SealedSteps.{run_sealed, start_sealed}
 use Rattle.sealed_machine.proofs.Connections.{all_match, all_told}

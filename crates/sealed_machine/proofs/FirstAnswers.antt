@@ -1,29 +1,17 @@
 -- What the plain machine sends to one connection in an act that is no connect of it has no answer to a connect request.
-use Rattle.std.proofs.Common.{◌≡◌, ℕ, ℤ, ◌↔◌, IsTrue, Bool, true, false, cond, List, [], ◌∷◌, ◌++◌, Option, Some, None, map, inl, inr, refl, sym, ap, subst}
+use Rattle.std.proofs.Common.{◌≡◌, ℕ, ℤ, Bool, true, false, cond, List, [], ◌∷◌, ◌++◌, Option, Some, None, sym, subst}
 use Rattle.std.specs.Prelude.{◌==◌}
-use Rattle.std.specs.List.{AllZip}
-use Rattle.std.proofs.lemmas.Bool.{false≢true}
 use Rattle.path_seal.specs.Sealed.{AreKeys}
 use Rattle.payload_seal.specs.declared.keys.EntryKeys.{EntryKeys}
-use Rattle.request_queue.specs.declared.asked.Asked.TheVariants as asks
-use Rattle.request_rewrite.specs.Asks as kept
-use Rattle.zk_records.specs.declared.create.CreateRequest.{CreateRequest}
-use Rattle.zk_messages.specs.Refuses.{IsSequential}
-use Rattle.zk_messages.specs.declared.request.Op.{Op}
-use Rattle.zk_messages.specs.declared.request.Op.TheVariants as ops
-use Rattle.zk_messages.specs.declared.request.Request.{Request}
-use Rattle.zk_messages.specs.declared.request.Request.TheVariants as requests
 use Rattle.counter_enclave.specs.Enclave.{IsSealedName}
 use Rattle.tree_state.specs.declared.message.Message.{Message}
 use Rattle.tree_state.specs.declared.message.Message.TheVariants as messages
 use Rattle.tree_state.specs.declared.message.Output.{Output}
-use Rattle.tree_state.specs.Nodes.{Path}
 use Rattle.tree_state.specs.State.{State, session_of}
 use Rattle.tree_state.specs.Trees.{IsNaming}
 use Rattle.tree_state.specs.Plain.{plain}
 use Rattle.tree_state.specs.Changes.{Naming}
-use Rattle.tree_state.specs.Commands.{Change, create, delete, set_content, check, Command, refused, single, multi}
-use Rattle.tree_state.proofs.Serving as serving
+use Rattle.tree_state.specs.Commands.{Command}
 use Rattle.zk_messages.specs.declared.reply.Reply.{Reply}
 use Rattle.tree_state.specs.State.{next_zxid}
 use Rattle.tree_state.specs.Step.{Act, connects, asks as asking, loses, expires, taken, replied, answer_connect, expired, step}
@@ -35,8 +23,8 @@ use Rattle.sealed_machine.proofs.SealedMultis.{all_deleted_sealed}
 use Rattle.sealed_machine.proofs.SealedSteps.{VeilsAct, answered}
 use Rattle.sealed_machine.proofs.Connections.{to_connection-append}
 use Rattle.sealed_machine.proofs.NoTrace.{first_none, nothing_to}
-use Rattle.sealed_machine.proofs.SealedChanges.{OpensEvent, OpensOutput, op_asked}
-use Rattle.sealed_machine.proofs.SealedAnswers.{VeilsCommand, asked_of, change_asked}
+use Rattle.sealed_machine.proofs.SealedChanges.{OpensEvent, OpensOutput}
+use Rattle.sealed_machine.proofs.SealedAnswers.{VeilsCommand}
 
 pub quiet-append : (a b : List Message) → HasNoConnected a → HasNoConnected b → HasNoConnected (a ++ b)
 unfolding HasNoConnected

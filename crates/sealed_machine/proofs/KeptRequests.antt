@@ -15,7 +15,7 @@ use Rattle.request_queue.specs.declared.asked.Asked.TheVariants as asks
 use Rattle.request_queue.specs.declared.asked.AskedOp.{AskedOp}
 use Rattle.request_queue.specs.declared.asked.AskedOp.TheVariants as op_asks
 use Rattle.request_rewrite.specs.Names.{IsNameOf}
-use Rattle.zk_path.specs.Paths.{IsTextOf, IsNamed}
+use Rattle.zk_path.specs.Paths.{IsTextOf}
 use Rattle.request_rewrite.specs.Asks as kept
 use Rattle.tree_state.specs.Nodes.{Path}
 use Rattle.tree_state.specs.Commands.{Change, create, delete, set_content, check, Command, refused, single, multi, set_acl, stat_at, get_content, get_acl, get_children, sync, IsCreate, IsChange, Asks, IsCommand}

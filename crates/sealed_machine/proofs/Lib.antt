@@ -16,6 +16,9 @@ pub mod KeptRequests
 pub mod ShorterValues
 pub mod ShorterNames
 pub mod ShorterReplies
+pub mod RefusalCodes
+pub mod AnswersFit
+pub mod QuietChanges
 pub mod NoTrace
 pub mod FirstAnswers
 pub mod EachLaw

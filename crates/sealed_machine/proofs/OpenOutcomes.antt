@@ -1,8 +1,5 @@
 -- What a client is told of each answer, in whatever order the store tells the names of a child list.
-use Rattle.std.proofs.Common.{◌≡◌, ℕ, ℤ, pos, ◌+◌, Bool, true, false, cond, List, [], ◌∷◌, Option, Some, None, length, map, inl, refl, sym, ap, subst, arith}
-use Rattle.std.specs.Prelude.{if◌then◌else◌}
-use Rattle.std.proofs.lemmas.Int.{ints}
-use Rattle.std.specs.Ordering.{int_cmp, is_lt}
+use Rattle.std.proofs.Common.{◌≡◌, ℕ, ℤ, Bool, true, false, List, [], ◌∷◌, Option, Some, None, length, map, inl, refl, sym, ap, subst}
 use Rattle.zk_path.specs.Paths.{text_of}
 use Rattle.path_seal.specs.Sealed.{AreKeys}
 use Rattle.payload_seal.specs.declared.keys.EntryKeys.{EntryKeys}
@@ -23,28 +20,20 @@ use Rattle.reply_rewrite.specs.Children.{IsPlainList}
 use Rattle.reply_rewrite.specs.Results.{IsPlainResult}
 use Rattle.reply_rewrite.specs.Stats.{IsPlainStat, IsPlainContent}
 use Rattle.reply_rewrite.proofs.Told.{failure_told, plain_told}
-use Rattle.watch_rewrite.specs.Events.{IsNodeKind}
-use Rattle.counter_enclave.specs.Enclave.{IsSealedName}
-use Rattle.tree_state.specs.declared.node.Numbers.{Numbers}
-use Rattle.tree_state.specs.declared.node.Moment.{Moment}
-use Rattle.tree_state.specs.Nodes.{Path, Node, Place, find, children, child_names, in_order, size_of, stat_of}
-use Rattle.tree_state.specs.State.{State, Aspect, on_data, on_children, without_session, watching_if}
-use Rattle.tree_state.specs.Trees.{IsNaming}
-use Rattle.tree_state.specs.Plain.{plain}
-use Rattle.tree_state.specs.Commands.{Change, create, delete, set_content, check, Command, refused, single, multi, set_acl, stat_at, get_content, get_acl, get_children, sync, ping, set_watches, close}
-use Rattle.tree_state.specs.Changes.{Trial, failed, done, need, Naming, Effect, Effects, is_at_last, is_other_version, with_acl, no_node, bad_version, system_error}
-use Rattle.tree_state.specs.Step.{Answer, with_error, told_only, or_error, outcome_of, answer_single, answer_multi, with_watch, names_with, Notice, tells, watches, content_notice, exist_notice, child_notice, Noticed, noticed, all_noticed, with_noticed, closed, answer}
+use Rattle.tree_state.specs.Nodes.{Path, Node, children, child_names, in_order, stat_of}
+use Rattle.tree_state.specs.State.{State}
+use Rattle.tree_state.specs.Commands.{Change, create, delete, set_content, check, get_children}
+use Rattle.tree_state.specs.Changes.{Effects}
+use Rattle.tree_state.specs.Step.{outcome_of, names_with}
 use Rattle.tree_state.proofs.ByteOrder.{Shuffles-in_order}
 use Rattle.tree_state.proofs.Reorder.{joined}
-use Rattle.tree_state.proofs.Found.{apart_changed}
 unfoldable pub use Rattle.sealed_machine.specs.Veils.{IsBelow, VeilsCommand, change_asked, asked_of}
 unfoldable pub use Rattle.tree_server.specs.Follows.{Shows}
 pub use Rattle.sealed_machine.specs.Opens.{IsOpenedTo, Opens}
-use Rattle.tree_server.proofs.Zipping.{Zips, Both, zips_none, zips_one, zips_append}
 use Rattle.sealed_machine.proofs.ChildLists.{plain_names, singles}
-use Rattle.sealed_machine.proofs.SealedStates.{Holds, Seals, SealedNode, SealedPlace, SealedWatch, IsSealedState, found, Keeps, change_zips, children_zips, ephemerals_zip, stats, others_zip, watching_zips, watching_if_zips}
-use Rattle.sealed_machine.proofs.SealedChanges.{Alike, need_alike, refuse_alike, done_alike, op_asked, OpensOutput, one_event, SealedEffect, SealedEffects, perform_sealed}
-use Rattle.sealed_machine.proofs.SealedMultis.{AlikeAll, perform_all_sealed, all_deleted_sealed, all_failed, all_done}
+use Rattle.sealed_machine.proofs.SealedStates.{Seals, SealedNode, IsSealedState, children_zips, stats}
+use Rattle.sealed_machine.proofs.SealedChanges.{op_asked, SealedEffects}
+use Rattle.sealed_machine.proofs.SealedMultis.{all_failed, all_done}
 
 -- an answer with no child list is told as it is
 told_as : (k : EntryKeys) (asked : Asked) (a b : Outcome) → ((told : Outcome) → Shows b told → told ≡ b) → HasShape (shape_for asked) b → AdmitsOutcome k asked b a None → Opens k asked a b
@@ -121,21 +110,27 @@ pub names_open : (k : EntryKeys) → AreKeys k.names → (p q : Path) (watch sta
 unfolding Shows IsPlain IsPlainList AdmitsOutcome AdmitsStored asked_of names_with child_names
 names_open k w p q watch false s t n m sp h x told (list, e, order) =
     subst (λ (o : Outcome). IsOpenedTo k (asks.Children p) o (outcomes.Children (Some (in_order (children p s.nodes))))) (sym e)
-    (record { shaped = tt; admitted = inl (
-      refl,
-      plain_names k.names w p (children p s.nodes) (children q t.nodes) list (children_zips k w p q sp s.nodes t.nodes h.nodes)
-          (joined (children q t.nodes) (in_order (children q t.nodes)) list (Shuffles-in_order (children q t.nodes)) order) (singles p s.nodes h.apart),
-    ) })
-names_open k w p q watch true s t n m sp h x told (list, e, order) =
-    subst (λ (o : Outcome). IsOpenedTo k (asks.Children2 p) o (outcomes.Children2 (Some (in_order (children p s.nodes))) (stat_of s.nodes p n))) (sym e)
-    (record { shaped = tt; admitted = inl (
-      refl,
-      (
+    (record {
+      shaped = tt;
+      admitted = inl (
+        refl,
         plain_names k.names w p (children p s.nodes) (children q t.nodes) list (children_zips k w p q sp s.nodes t.nodes h.nodes)
             (joined (children q t.nodes) (in_order (children q t.nodes)) list (Shuffles-in_order (children q t.nodes)) order) (singles p s.nodes h.apart),
-        stats k w p q n m sp x s.nodes t.nodes h.nodes,
-      ),
-    ) })
+      );
+    })
+names_open k w p q watch true s t n m sp h x told (list, e, order) =
+    subst (λ (o : Outcome). IsOpenedTo k (asks.Children2 p) o (outcomes.Children2 (Some (in_order (children p s.nodes))) (stat_of s.nodes p n))) (sym e)
+    (record {
+      shaped = tt;
+      admitted = inl (
+        refl,
+        (
+          plain_names k.names w p (children p s.nodes) (children q t.nodes) list (children_zips k w p q sp s.nodes t.nodes h.nodes)
+              (joined (children q t.nodes) (in_order (children q t.nodes)) list (Shuffles-in_order (children q t.nodes)) order) (singles p s.nodes h.apart),
+          stats k w p q n m sp x s.nodes t.nodes h.nodes,
+        ),
+      );
+    })
 
 -- ---- a change alone
 

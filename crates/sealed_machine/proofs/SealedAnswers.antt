@@ -1,46 +1,31 @@
 -- The answers to commands on both sides.
-use Rattle.std.proofs.Common.{◌≡◌, ℕ, ℤ, pos, ◌+◌, Bool, true, false, cond, List, [], ◌∷◌, Option, Some, None, length, map, inl, refl, sym, ap, subst, arith}
-use Rattle.std.specs.Prelude.{if◌then◌else◌}
-use Rattle.std.proofs.lemmas.Int.{ints}
-use Rattle.std.specs.Ordering.{int_cmp, is_lt}
-use Rattle.zk_path.specs.Paths.{text_of}
+use Rattle.std.proofs.Common.{◌≡◌, ℕ, ℤ, pos, ◌+◌, Bool, false, List, [], ◌∷◌, Option, Some, None, map, refl, sym, ap, subst}
 use Rattle.path_seal.specs.Sealed.{AreKeys}
 use Rattle.payload_seal.specs.declared.keys.EntryKeys.{EntryKeys}
-use Rattle.request_queue.specs.declared.asked.Asked.{Asked}
 use Rattle.request_queue.specs.declared.asked.Asked.TheVariants as asks
 use Rattle.zk_records.specs.declared.stat.Stat.{Stat}
-use Rattle.zk_messages.specs.Refuses.{open_acl}
-use Rattle.zk_messages.specs.declared.reply.OpResult.{OpResult}
 use Rattle.zk_messages.specs.declared.reply.OpResult.TheVariants as results
-use Rattle.zk_messages.specs.declared.reply.Outcome.{Outcome}
 use Rattle.zk_messages.specs.declared.reply.Outcome.TheVariants as outcomes
-use Rattle.reply_rewrite.specs.Admits.{AdmitsOutcome, AdmitsStored, IsRefused, IsPlain}
-use Rattle.reply_rewrite.specs.Children.{IsPlainList}
-use Rattle.reply_rewrite.specs.Results.{IsPlainResult}
+use Rattle.reply_rewrite.specs.Admits.{IsRefused}
 use Rattle.reply_rewrite.specs.Stats.{IsPlainStat, IsPlainContent}
-use Rattle.reply_rewrite.proofs.Told.{failure_told, plain_told}
-use Rattle.watch_rewrite.specs.Events.{IsNodeKind}
 use Rattle.counter_enclave.specs.Enclave.{IsSealedName}
 use Rattle.tree_state.specs.declared.node.Numbers.{Numbers}
 use Rattle.tree_state.specs.declared.node.Moment.{Moment}
-use Rattle.tree_state.specs.Nodes.{Path, Node, Place, find, children, child_names, in_order, size_of, stat_of}
+use Rattle.tree_state.specs.Nodes.{Path, Node, Place, find, size_of, stat_of}
 use Rattle.tree_state.specs.State.{State, Aspect, on_data, on_children, without_session, watching_if}
 use Rattle.tree_state.specs.Trees.{IsNaming}
 use Rattle.tree_state.specs.Plain.{plain}
-use Rattle.tree_state.specs.Commands.{Change, create, delete, set_content, check, Command, refused, single, multi, set_acl, stat_at, get_content, get_acl, get_children, sync, ping, set_watches, close}
+use Rattle.tree_state.specs.Commands.{Change, Command, refused, single, multi, set_acl, stat_at, get_content, get_acl, get_children, sync, ping, set_watches, close}
 use Rattle.tree_state.specs.Changes.{Trial, failed, done, need, Naming, Effect, Effects, is_at_last, is_other_version, with_acl, no_node, bad_version, system_error}
-use Rattle.tree_state.specs.Step.{Answer, with_error, told_only, or_error, outcome_of, answer_single, answer_multi, with_watch, names_with, Notice, tells, watches, content_notice, exist_notice, child_notice, Noticed, noticed, all_noticed, with_noticed, closed, answer}
-use Rattle.tree_state.proofs.ByteOrder.{Shuffles-in_order}
-use Rattle.tree_state.proofs.Reorder.{joined}
+use Rattle.tree_state.specs.Step.{Answer, with_error, told_only, or_error, answer_single, answer_multi, with_watch, closed, answer}
 use Rattle.tree_state.proofs.Found.{apart_changed}
 unfoldable pub use Rattle.sealed_machine.specs.Veils.{IsBelow, VeilsCommand, change_asked, asked_of}
 unfoldable pub use Rattle.tree_server.specs.Follows.{Shows}
 pub use Rattle.sealed_machine.specs.Opens.{Opens, SealedAnswer}
-use Rattle.tree_server.proofs.Zipping.{Zips, Both, zips_none, zips_one, zips_append}
-use Rattle.sealed_machine.proofs.ChildLists.{plain_names, singles}
-use Rattle.sealed_machine.proofs.SealedStates.{Holds, Seals, SealedNode, SealedPlace, SealedWatch, IsSealedState, found, Keeps, change_zips, children_zips, ephemerals_zip, stats, others_zip, watching_zips, watching_if_zips}
-use Rattle.sealed_machine.proofs.SealedChanges.{Alike, need_alike, refuse_alike, done_alike, op_asked, OpensOutput, one_event, SealedEffect, SealedEffects, perform_sealed}
-use Rattle.sealed_machine.proofs.SealedMultis.{AlikeAll, perform_all_sealed, all_deleted_sealed, all_failed, all_done}
+use Rattle.tree_server.proofs.Zipping.{Zips, zips_none}
+use Rattle.sealed_machine.proofs.SealedStates.{Holds, Seals, SealedNode, SealedWatch, IsSealedState, found, Keeps, change_zips, ephemerals_zip, stats, others_zip, watching_if_zips}
+use Rattle.sealed_machine.proofs.SealedChanges.{Alike, need_alike, refuse_alike, done_alike, op_asked, OpensOutput, SealedEffect, perform_sealed}
+use Rattle.sealed_machine.proofs.SealedMultis.{AlikeAll, perform_all_sealed, all_deleted_sealed}
 use Rattle.sealed_machine.proofs.OpenOutcomes.{Shows, error_opens, refused_opens, empty_opens, close_opens, stat_opens, content_opens, acl_opens, sync_opens, multi_opens, failed_plain, done_plain, names_open, single_opens, change_not_refused, children_not_refused}
 use Rattle.sealed_machine.proofs.SealedNotices.{set_watches_sealed}
 

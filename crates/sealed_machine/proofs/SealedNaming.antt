@@ -1,5 +1,5 @@
 -- Sealed names are a naming: whether a text is a sealed stem's can be decided.
-use Rattle.std.proofs.Common.{◌≡◌, ℕ, List, [], ◌∷◌, ◌++◌, Option, Some, None, refl, sym, ap, subst, ◌∙◌}
+use Rattle.std.proofs.Common.{◌≡◌, ℕ, List, [], ◌∷◌, ◌++◌, Option, Some, None, sym, ap, ◌∙◌}
 use Rattle.std.proofs.lemmas.List.Elements.{All-nil, All-cons, All-head, All-tail}
 use Rattle.zk_path.specs.Paths.{IsComponent, IsPath, IsStem, IsStemEnd, joined, text_of}
 use Rattle.zk_path.specs.Numbers.{ten_digits}
@@ -8,7 +8,7 @@ use Rattle.path_seal.specs.Sealed.{Keys, AreKeys, SealName, sealed, OpensName}
 use Rattle.counter_enclave.specs.Enclave.{IsSealedName}
 use Rattle.tree_state.specs.Nodes.{Path}
 use Rattle.tree_state.specs.Changes.{Naming}
-use Rattle.tree_state.specs.Trees.{IsNaming, IsNameOf}
+use Rattle.tree_state.specs.Trees.{IsNameOf}
 use Rattle.sealed_machine.specs.Laws.{HasSealedNaming}
 use Rattle.sealed_machine.proofs.SealedNames.{sealed_root, sealed_child, sealed_stem, stem_text, numbered_text, one_path, dec_name, dec_end}
 

@@ -1,40 +1,33 @@
 -- The veiled form of a request asks for the sealed form of its command.
-use Rattle.std.proofs.Common.{◌≡◌, ◌⊎◌, ◌↔◌, ℕ, ℤ, pos, Bool, true, false, IsTrue, List, [], ◌∷◌, ◌++◌, Option, Some, None, length, inl, inr, refl, sym, ap, subst, ◌∙◌}
+use Rattle.std.proofs.Common.{◌≡◌, ℕ, ℤ, true, false, List, [], ◌∷◌, ◌++◌, Option, Some, None, inl, inr, refl, sym, subst, ◌∙◌}
 use Rattle.std.specs.Prelude.{All}
 use Rattle.std.specs.List.{AllZip}
-use Rattle.std.proofs.lemmas.Bool.{false≢true}
 use Rattle.std.proofs.lemmas.List.Elements.{All-nil, All-cons, All-head, All-tail}
-use Rattle.zk_path.specs.Paths.{IsComponent, IsPath, IsPathText, text_of, IsTextOf, IsNamed}
-use Rattle.zk_path.proofs.Judged.{one_text, one_stem_text}
-use Rattle.zk_path.proofs.Numbered.{is_numbered}
+use Rattle.zk_path.specs.Paths.{IsComponent, IsPathText}
+use Rattle.zk_path.proofs.Judged.{one_text}
 use Rattle.path_seal.specs.Sealed.{Keys, AreKeys, SealName, sealed}
-use Rattle.payload_seal.specs.Payload.{SealData, Accepts}
+use Rattle.payload_seal.specs.Payload.{SealData}
 use Rattle.payload_seal.specs.declared.keys.EntryKeys.{EntryKeys}
-use Rattle.payload_seal.proofs.Judged.{accepted_when_sealed, accepted_when_numbered}
 use Rattle.zk_records.specs.declared.create.CreateRequest.{CreateRequest}
-use Rattle.zk_records.specs.declared.acl.Acl.{Acl}
-use Rattle.zk_messages.specs.Refuses.{Rule, IsRootText, IsNameFor, AreFlags, IsOpen, Refuses, RefusesOp, RefusesOps, RefusesPath, RefusesNode, RefusesCreate, IsSequential}
+use Rattle.zk_messages.specs.Refuses.{Refuses, RefusesOp, RefusesOps, RefusesCreate}
 use Rattle.zk_messages.specs.declared.request.Op.{Op}
 use Rattle.zk_messages.specs.declared.request.Op.TheVariants as ops
 use Rattle.zk_messages.specs.declared.request.Request.{Request}
 use Rattle.zk_messages.specs.declared.request.Request.TheVariants as requests
-use Rattle.zk_messages.proofs.Allowed.{not_root, not_first, create_open, acl_open, ops_allowed}
-use Rattle.watch_rewrite.specs.Watches.{SealsText, SealsTexts, SealsList}
-use Rattle.request_rewrite.specs.Names.{IsNameOf, SealNameOf}
+use Rattle.zk_messages.proofs.Allowed.{acl_open, ops_allowed}
+use Rattle.watch_rewrite.specs.Watches.{SealsTexts, SealsList}
 use Rattle.request_rewrite.specs.Veil.{VeilsCreate as TextCreate, VeilsOp, VeilsOps, Veils, Veil, stand_in}
-use Rattle.tree_state.specs.Nodes.{Path}
-use Rattle.tree_state.specs.Commands.{Change, create, delete, set_content, check, Command, refused, single, multi, set_acl, stat_at, get_content, get_acl, get_children, sync, ping, set_watches, close, AreTextsOf, IsCreate, IsChange, Asks, IsCommand}
+use Rattle.tree_state.specs.Commands.{Change, create, delete, set_content, check, Command, refused, single, multi, set_acl, stat_at, get_content, get_acl, get_children, sync, ping, set_watches, close, IsChange, Asks, IsCommand}
 use Rattle.tree_state.proofs.OneCommand.{one_command}
 use Rattle.tree_state.proofs.Serving as serving
 use Rattle.std.proofs.lemmas.Option.{none-some}
 use Rattle.zk_messages.specs.Refuses.{ArePaths}
 use Rattle.zk_messages.proofs.FirstRules.{one_outcome}
 use Rattle.tree_server.proofs.Zipping.{Zips}
-use Rattle.sealed_machine.proofs.SealedNames.{sealed_legal, sealed_stem}
-use Rattle.sealed_machine.proofs.SealedStates.{Holds, Seals}
-use Rattle.sealed_machine.proofs.SealedChanges.{IsLast, IsGiven, VeilsChange, VeilsCreate}
-use Rattle.sealed_machine.proofs.SealedAnswers.{IsBelow, VeilsCommand}
-use Rattle.sealed_machine.proofs.SealedTexts.{IsIvOf, IsSealedText, SealedCreate, text_pair, list_pair, holds_below, not_below_root, sealed_create, rule_passes, text_of_root, path_text, path_allows, open_same, node_allows, create_allows}
+use Rattle.sealed_machine.proofs.SealedNames.{sealed_legal}
+use Rattle.sealed_machine.proofs.SealedChanges.{VeilsChange}
+use Rattle.sealed_machine.proofs.SealedAnswers.{VeilsCommand}
+use Rattle.sealed_machine.proofs.SealedTexts.{IsIvOf, text_sealed, list_sealed, holds_below, not_below_root, sealed_create, rule_passes, text_of_root, path_text, path_allows, open_same, node_allows, create_allows}
 
 -- ---- operations of a multi
 
@@ -55,11 +48,11 @@ sealed_op k w ivs (ops.Create2 r) (ops.Create2 v) (create p n d q e stat) good o
     record { change = create (sealed k.names p) (SealName k.names p n) s.y q e stat; asked = (s.asked, h.1); veils = (s.veils, refl, refl, refl); allowed = create_allows k w r v p n d q e ok t.same_flags t.same_acls s }
 sealed_op k w ivs (ops.Create2 r) (ops.Create2 v) c good ok t h = absurd h
 sealed_op k w ivs (ops.Delete r) (ops.Delete v) (delete p version) good ok t h =
-    let s = text_pair k.names w r.path v.path p h.0 t.0.text in
+    let s = text_sealed k.names w r.path v.path p h.0 t.0.text in
     record { change = delete (sealed k.names p) version; asked = (s.asked, t.0.same_version ∙ h.1); veils = (s.seals, refl); allowed = node_allows k.names p v.path (not_below_root r.path p h.0 ok) s }
 sealed_op k w ivs (ops.Delete r) (ops.Delete v) c good ok t h = absurd h
 sealed_op k w ivs (ops.SetContent r) (ops.SetContent v) (set_content p d version) good ok t h =
-    let s = text_pair k.names w r.path v.path p h.0 t.text in
+    let s = text_sealed k.names w r.path v.path p h.0 t.text in
     let below = not_below_root r.path p h.0 ok in
     let iv : IsIvOf k.payloads t.iv = All-head (IsIvOf k.payloads) t.iv [] (subst (λ (l : List (List ℕ)). All (IsIvOf k.payloads) l) t.one_iv good) in
     let path : t.text.path ≡ p = one_text t.text.path p t.text.named.legal h.0.legal (sym t.text.named.spelled ∙ h.0.spelled) in
@@ -71,7 +64,7 @@ sealed_op k w ivs (ops.SetContent r) (ops.SetContent v) (set_content p d version
     }
 sealed_op k w ivs (ops.SetContent r) (ops.SetContent v) c good ok t h = absurd h
 sealed_op k w ivs (ops.Check r) (ops.Check v) (check p version) good ok t h =
-    let s = text_pair k.names w r.path v.path p h.0 t.0.text in
+    let s = text_sealed k.names w r.path v.path p h.0 t.0.text in
     record { change = check (sealed k.names p) version; asked = (s.asked, t.0.same_version ∙ h.1); veils = (s.seals, refl); allowed = path_allows k.names p v.path s }
 sealed_op k w ivs (ops.Check r) (ops.Check v) c good ok t h = absurd h
 sealed_op k w ivs r v c good ok t h = absurd t
@@ -155,20 +148,20 @@ sealed_request k w ivs (requests.Create r) (requests.Create v) a good ok t h = c
 sealed_request k w ivs (requests.Create2 r) (requests.Create2 v) a good ok t h = creates_with_stat k w ivs r v a good ok t h
 sealed_request k w ivs (requests.Delete r) (requests.Delete v) a good ok t h =
     let x = serving.asks_delete r a h in
-    let s = text_pair k.names w r.path v.path x.0 x.1 t.0.text in
+    let s = text_sealed k.names w r.path v.path x.0 x.1 t.0.text in
     along k _ a _ x.2 (record { command = single (delete (sealed k.names x.0) r.version); asked = (s.asked, t.0.same_version); veils = (s.seals, refl); allowed = node_allows k.names x.0 v.path (not_below_root r.path x.0 x.1 ok) s })
 sealed_request k w ivs (requests.Exists r) (requests.Exists v) a good ok t h =
     let x = serving.asks_stat r a h in
-    let s = text_pair k.names w r.path v.path x.path x.text t.0.text in
+    let s = text_sealed k.names w r.path v.path x.path x.text t.0.text in
     along k _ a _ x.is (record { command = stat_at (sealed k.names x.path) r.watch; asked = (s.asked, t.0.same_watch); veils = (s.seals, refl); allowed = path_allows k.names x.path v.path s })
 sealed_request k w ivs (requests.GetContent r) (requests.GetContent v) a good ok t h =
     let x = serving.asks_content r a h in
-    let s = text_pair k.names w r.path v.path x.path x.text t.0.text in
+    let s = text_sealed k.names w r.path v.path x.path x.text t.0.text in
     let below = not_below_root r.path x.path x.text ok in
     along k _ a _ x.is (record { command = get_content (sealed k.names x.path) r.watch; asked = (s.asked, t.0.same_watch); veils = (s.seals, refl, below); allowed = node_allows k.names x.path v.path below s })
 sealed_request k w ivs (requests.SetContent r) (requests.SetContent v) a good ok t h =
     let x = serving.asks_set_content r a h in
-    let s = text_pair k.names w r.path v.path x.0 x.1 t.text in
+    let s = text_sealed k.names w r.path v.path x.0 x.1 t.text in
     let below = not_below_root r.path x.0 x.1 ok in
     let iv : IsIvOf k.payloads t.iv = All-head (IsIvOf k.payloads) t.iv [] (subst (λ (l : List (List ℕ)). All (IsIvOf k.payloads) l) t.one_iv good) in
     let path : t.text.path ≡ x.0 = one_text t.text.path x.0 t.text.named.legal x.1.legal (sym t.text.named.spelled ∙ x.1.spelled) in
@@ -180,11 +173,11 @@ sealed_request k w ivs (requests.SetContent r) (requests.SetContent v) a good ok
     })
 sealed_request k w ivs (requests.GetAcl r) (requests.GetAcl v) a good ok t h =
     let x = serving.asks_acl r a h in
-    let s = text_pair k.names w r.path v.path x.0 x.1 t.0.text in
+    let s = text_sealed k.names w r.path v.path x.0 x.1 t.0.text in
     along k _ a _ x.2 (record { command = get_acl (sealed k.names x.0); asked = s.asked; veils = s.seals; allowed = path_allows k.names x.0 v.path s })
 sealed_request k w ivs (requests.SetAcl r) (requests.SetAcl v) a good ok t h =
     let x = serving.asks_set_acl r a h in
-    let s = text_pair k.names w r.path v.path x.0 x.1 t.0.text in
+    let s = text_sealed k.names w r.path v.path x.0 x.1 t.0.text in
     along k _ a _ x.2 (record {
       command = set_acl (sealed k.names x.0) r.version;
       asked = (s.asked, t.0.same_version);
@@ -193,24 +186,24 @@ sealed_request k w ivs (requests.SetAcl r) (requests.SetAcl v) a good ok t h =
     })
 sealed_request k w ivs (requests.GetChildren r) (requests.GetChildren v) a good ok t h =
     let x = serving.asks_names r a h in
-    let s = text_pair k.names w r.path v.path x.path x.text t.0.text in
+    let s = text_sealed k.names w r.path v.path x.path x.text t.0.text in
     along k _ a _ x.is (record { command = get_children (sealed k.names x.path) r.watch false; asked = (s.asked, t.0.same_watch, refl); veils = (s.seals, refl, refl); allowed = path_allows k.names x.path v.path s })
 sealed_request k w ivs (requests.GetChildren2 r) (requests.GetChildren2 v) a good ok t h =
     let x = serving.asks_names_stat r a h in
-    let s = text_pair k.names w r.path v.path x.path x.text t.0.text in
+    let s = text_sealed k.names w r.path v.path x.path x.text t.0.text in
     along k _ a _ x.is (record { command = get_children (sealed k.names x.path) r.watch true; asked = (s.asked, t.0.same_watch, refl); veils = (s.seals, refl, refl); allowed = path_allows k.names x.path v.path s })
 sealed_request k w ivs (requests.Sync r) (requests.Sync v) a good ok t h =
     let x = serving.asks_sync r a h in
-    let s = text_pair k.names w r.path v.path x.0 x.1 t.0.text in
+    let s = text_sealed k.names w r.path v.path x.0 x.1 t.0.text in
     along k _ a _ x.2 (record { command = sync (sealed k.names x.0); asked = s.asked; veils = s.seals; allowed = path_allows k.names x.0 v.path s })
 sealed_request k w ivs requests.Ping requests.Ping a good ok t h =
     along k _ a _ (serving.asks_ping a h) (record { command = ping; asked = tt; veils = tt; allowed = refl })
 sealed_request k w ivs (requests.Multi rs) (requests.Multi vs) a good ok t h = multis k w ivs rs vs a good ok t h
 sealed_request k w ivs (requests.SetWatches r) (requests.SetWatches v) a good ok t h =
     let x = serving.asks_watches r a h in
-    let c = list_pair k.names w r.content_paths v.content_paths x.contents x.content_texts t.0.content in
-    let e = list_pair k.names w r.exist_paths v.exist_paths x.exist x.exist_texts t.0.exist in
-    let d = list_pair k.names w r.child_paths v.child_paths x.childs x.child_texts t.0.child in
+    let c = list_sealed k.names w r.content_paths v.content_paths x.contents x.content_texts t.0.content in
+    let e = list_sealed k.names w r.exist_paths v.exist_paths x.exist x.exist_texts t.0.exist in
+    let d = list_sealed k.names w r.child_paths v.child_paths x.childs x.child_texts t.0.child in
     along k _ a _ x.is (record {
       command = set_watches r.seen c.0 e.0 d.0;
       asked = (t.0.same_seen, c.1, e.1, d.1);

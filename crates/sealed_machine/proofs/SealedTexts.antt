@@ -1,5 +1,5 @@
 -- From the texts of a request and of its veiled form to paths, contents and creates.
-use Rattle.std.proofs.Common.{◌≡◌, ◌⊎◌, ◌↔◌, ℕ, ℤ, pos, Bool, true, false, IsTrue, List, [], ◌∷◌, ◌++◌, Option, Some, None, length, inl, inr, refl, sym, ap, subst, ◌∙◌}
+use Rattle.std.proofs.Common.{◌≡◌, ◌⊎◌, ◌↔◌, ℕ, ℤ, pos, Bool, true, false, IsTrue, List, [], ◌∷◌, Option, Some, None, inl, inr, refl, sym, ap, subst, ◌∙◌}
 use Rattle.std.specs.Prelude.{All}
 use Rattle.std.specs.List.{AllZip}
 use Rattle.std.proofs.lemmas.Bool.{false≢true}
@@ -13,26 +13,17 @@ use Rattle.payload_seal.specs.declared.keys.EntryKeys.{EntryKeys}
 use Rattle.payload_seal.proofs.Judged.{accepted_when_sealed, accepted_when_numbered}
 use Rattle.zk_records.specs.declared.create.CreateRequest.{CreateRequest}
 use Rattle.zk_records.specs.declared.acl.Acl.{Acl}
-use Rattle.zk_messages.specs.Refuses.{Rule, IsRootText, IsNameFor, AreFlags, IsOpen, Refuses, RefusesOp, RefusesOps, RefusesPath, RefusesNode, RefusesCreate, IsSequential}
-use Rattle.zk_messages.specs.declared.request.Op.{Op}
-use Rattle.zk_messages.specs.declared.request.Op.TheVariants as ops
-use Rattle.zk_messages.specs.declared.request.Request.{Request}
-use Rattle.zk_messages.specs.declared.request.Request.TheVariants as requests
-use Rattle.zk_messages.proofs.Allowed.{not_root, not_first, create_open, acl_open, ops_allowed}
+use Rattle.zk_messages.specs.Refuses.{Rule, IsRootText, IsNameFor, AreFlags, IsOpen, RefusesPath, RefusesNode, RefusesCreate, IsSequential}
+use Rattle.zk_messages.proofs.Allowed.{not_root, not_first, create_open}
 use Rattle.watch_rewrite.specs.Watches.{SealsText, SealsTexts, SealsList}
 use Rattle.request_rewrite.specs.Names.{IsNameOf, SealNameOf}
-use Rattle.request_rewrite.specs.Veil.{VeilsCreate as TextCreate, VeilsOp, VeilsOps, Veils, Veil, stand_in}
+use Rattle.request_rewrite.specs.Veil.{VeilsCreate as TextCreate}
 use Rattle.tree_state.specs.Nodes.{Path}
-use Rattle.tree_state.specs.Commands.{Change, create, delete, set_content, check, Command, refused, single, multi, set_acl, stat_at, get_content, get_acl, get_children, sync, ping, set_watches, close, AreTextsOf, IsCreate, IsChange, Asks, IsCommand}
-use Rattle.tree_state.proofs.OneCommand.{one_command}
-use Rattle.tree_state.proofs.Serving as serving
-use Rattle.std.proofs.lemmas.Option.{none-some}
-use Rattle.zk_messages.specs.Refuses.{ArePaths}
-use Rattle.zk_messages.proofs.FirstRules.{one_outcome}
+use Rattle.tree_state.specs.Commands.{AreTextsOf, IsCreate}
 use Rattle.tree_server.proofs.Zipping.{Zips}
 use Rattle.sealed_machine.proofs.SealedNames.{sealed_child, stem_text, sealed_legal, sealed_stem}
 use Rattle.sealed_machine.proofs.SealedStates.{Holds, Seals}
-use Rattle.sealed_machine.proofs.SealedChanges.{IsLast, IsGiven, VeilsChange, VeilsCreate}
+use Rattle.sealed_machine.proofs.SealedChanges.{IsLast, IsGiven, VeilsCreate}
 unfoldable pub use Rattle.sealed_machine.specs.Veils.{IsBelow}
 pub use Rattle.sealed_machine.specs.Veils.{IsIvOf}
 
@@ -43,36 +34,36 @@ pub record IsSealedText (k : Keys) (p : Path) (v : List ℕ) : Type 0 where
   pub seals : Seals k p (sealed k p)
   pub asked : IsTextOf v (sealed k p)
 
-pub text_pair : (k : Keys) → AreKeys k → (text v : List ℕ) (p : Path) → IsTextOf text p → SealsText k text v → IsSealedText k p v
-text_pair k w text v p t s =
+pub text_sealed : (k : Keys) → AreKeys k → (text v : List ℕ) (p : Path) → IsTextOf text p → SealsText k text v → IsSealedText k p v
+text_sealed k w text v p t s =
     let same : s.path ≡ p = one_text s.path p s.named.legal t.legal (sym s.named.spelled ∙ t.spelled) in
     record {
       seals = record { legal = t.legal; is = refl };
       asked = record { legal = sealed_legal k p w t.legal; spelled = s.is_sealed ∙ ap (λ (x : Path). text_of (sealed k x)) same };
     }
 
-texts_pair : (k : Keys) → AreKeys k → (texts vs : List (List ℕ)) (ps : List Path) → AllZip IsTextOf texts ps → SealsTexts k texts vs → (qs : List Path) × AllZip IsTextOf vs qs × Zips (Seals k) ps qs
+texts_sealed : (k : Keys) → AreKeys k → (texts vs : List (List ℕ)) (ps : List Path) → AllZip IsTextOf texts ps → SealsTexts k texts vs → (qs : List Path) × AllZip IsTextOf vs qs × Zips (Seals k) ps qs
 unfolding Zips
-texts_pair k w [] [] [] t s = ([], tt, tt)
-texts_pair k w [] [] (p ∷ ps) t s = absurd t
-texts_pair k w [] (v ∷ vs) ps t s = absurd s
-texts_pair k w (x ∷ texts) [] ps t s = absurd s
-texts_pair k w (x ∷ texts) (v ∷ vs) [] t s = absurd t
-texts_pair k w (x ∷ texts) (v ∷ vs) (p ∷ ps) t s =
-    let one = text_pair k w x v p t.0 s.0 in
-    let more = texts_pair k w texts vs ps t.1 s.1 in
+texts_sealed k w [] [] [] t s = ([], tt, tt)
+texts_sealed k w [] [] (p ∷ ps) t s = absurd t
+texts_sealed k w [] (v ∷ vs) ps t s = absurd s
+texts_sealed k w (x ∷ texts) [] ps t s = absurd s
+texts_sealed k w (x ∷ texts) (v ∷ vs) [] t s = absurd t
+texts_sealed k w (x ∷ texts) (v ∷ vs) (p ∷ ps) t s =
+    let one = text_sealed k w x v p t.0 s.0 in
+    let more = texts_sealed k w texts vs ps t.1 s.1 in
     (sealed k p ∷ more.0, (one.asked, more.1), (one.seals, more.2))
 
 nil_zip : (k : Keys) (ps : List Path) → ps ≡ [] → Zips (Seals k) ps []
 unfolding Zips
 nil_zip k ps e = subst (λ (x : List Path). Zips (Seals k) x []) (sym e) tt
 
-pub list_pair : (k : Keys) → AreKeys k → (texts vs : Option (List (List ℕ))) (ps : List Path) → AreTextsOf texts ps → SealsList k texts vs → (qs : List Path) × AreTextsOf vs qs × Zips (Seals k) ps qs
+pub list_sealed : (k : Keys) → AreKeys k → (texts vs : Option (List (List ℕ))) (ps : List Path) → AreTextsOf texts ps → SealsList k texts vs → (qs : List Path) × AreTextsOf vs qs × Zips (Seals k) ps qs
 unfolding AreTextsOf
-list_pair k w None None ps t s = ([], refl, nil_zip k ps t)
-list_pair k w None (Some vs) ps t s = absurd s
-list_pair k w (Some texts) None ps t s = absurd s
-list_pair k w (Some texts) (Some vs) ps t s = texts_pair k w texts vs ps t s
+list_sealed k w None None ps t s = ([], refl, nil_zip k ps t)
+list_sealed k w None (Some vs) ps t s = absurd s
+list_sealed k w (Some texts) None ps t s = absurd s
+list_sealed k w (Some texts) (Some vs) ps t s = texts_sealed k w texts vs ps t s
 
 -- ---- contents
 

@@ -1,21 +1,20 @@
 -- The names of children take no more bytes than the store's, in whatever order these stand.
-use Rattle.std.proofs.Common.{◌≡◌, ◌≢◌, ◌<◌, ◌≤◌, ◌+◌, ◌^◌, ◌↔◌, ℕ, zero, suc, pos, Bool, true, false, List, [], ◌∷◌, ◌++◌, Option, Some, None, length, inl, inr, refl, sym, ap, subst, ◌∙◌, arith, length-append}
+use Rattle.std.proofs.Common.{◌≡◌, ◌≢◌, ◌<◌, ◌≤◌, ◌+◌, ◌^◌, ℕ, pos, true, false, List, [], ◌∷◌, ◌++◌, Option, Some, length, inl, inr, refl, sym, ap, subst, ◌∙◌, arith, length-append}
 use Rattle.std.specs.List.{AllByRecursion}
 use Rattle.std.specs.List.Sorted.{IsStrictlySortedBy}
 use Rattle.std.specs.Ordering.{is_eq}
-use Rattle.std.specs.Str.{IsUtf8, bytes_eq}
-use Rattle.std.specs.declared.cmp.Ordering.{Ordering}
+use Rattle.std.specs.Str.{IsUtf8}
 use Rattle.std.specs.declared.cmp.Ordering.TheVariants.{Less}
 use Rattle.std.proofs.lemmas.Map.Text.{is_eq-slice_cmp}
 use Rattle.std.proofs.lemmas.Slice.Eq.{bytes_eq-Decides}
-use Rattle.jute_core.specs.Jute.{Spells, Each, IsLength, int_bytes, ustring, vector}
+use Rattle.jute_core.specs.Jute.{Spells, Each, int_bytes, ustring, vector}
 use Rattle.zk_path.specs.Paths.{IsComponent}
-use Rattle.path_seal.specs.Sealed.{Keys, AreKeys, SealName, OpensName}
-use Rattle.reply_rewrite.specs.Children.{byte_order, IsOneOf, name_at, ArePlainNames, IsPlainList}
+use Rattle.path_seal.specs.Sealed.{Keys, AreKeys, SealName}
+use Rattle.reply_rewrite.specs.Children.{byte_order, IsOneOf, ArePlainNames, IsPlainList}
 use Rattle.tree_state.specs.Nodes.{Path}
 use Rattle.sealed_machine.proofs.SealedNames.{sealed_longer, one_name}
 use Rattle.sealed_machine.proofs.ChildLists.{at_one_of}
-use Rattle.sealed_machine.proofs.ShorterValues.{IsWritten, Shrinks}
+use Rattle.sealed_machine.proofs.ShorterValues.{Shrinks}
 
 -- how many bytes spell these texts
 total : List (List ℕ) → ℕ

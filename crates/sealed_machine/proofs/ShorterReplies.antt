@@ -1,5 +1,5 @@
 -- The plain messages can be written where the store's can, each in a frame that is no longer.
-use Rattle.std.proofs.Common.{◌≡◌, ◌≢◌, ◌<◌, ◌≤◌, ◌+◌, ◌^◌, ℕ, ℤ, pos, negsuc, Bool, true, false, List, [], ◌∷◌, ◌++◌, Option, Some, None, length, inl, inr, refl, sym, ap, subst, ◌∙◌, arith, length-append}
+use Rattle.std.proofs.Common.{◌≡◌, ◌≢◌, ◌≤◌, ◌+◌, ℕ, ℤ, pos, negsuc, Bool, true, false, List, [], ◌∷◌, ◌++◌, None, length, inl, inr, refl, sym, ap, subst, arith, length-append}
 use Rattle.std.proofs.lemmas.Int.{ints}
 use Rattle.std.specs.Int.{w32}
 use Rattle.std.specs.Int.RustNames.{FitsSigned}
@@ -16,10 +16,9 @@ use Rattle.zk_records.specs.Headers.{reply_header}
 use Rattle.zk_records.specs.Stats.{stat, stat_fields}
 use Rattle.zk_records.specs.Acls.{acls, acls_fields}
 use Rattle.zk_messages.specs.Forms.{SpellsForm}
-use Rattle.zk_messages.specs.Multi.{multi_header, SpellsResult, SpellsResults, IsEnd}
-use Rattle.zk_messages.specs.Reading.{Ended}
+use Rattle.zk_messages.specs.Multi.{multi_header, SpellsResult, SpellsResults}
 use Rattle.zk_messages.specs.Sending.{AddsBytes}
-use Rattle.zk_messages.specs.Replies.{HasShape, SpellsOutcome, IsOutcome, SpellsReply, IsReply, SpellsEvent, err_of, event_record, event_fields}
+use Rattle.zk_messages.specs.Replies.{SpellsOutcome, IsOutcome, IsReply, SpellsEvent, err_of, event_record, event_fields}
 use Rattle.zk_messages.specs.declared.reply.Event.{Event}
 use Rattle.zk_messages.specs.declared.reply.OpResult.{OpResult}
 use Rattle.zk_messages.specs.declared.reply.OpResult.TheVariants as results
@@ -36,7 +35,6 @@ use Rattle.tree_state.specs.declared.message.Message.{Message}
 use Rattle.tree_state.specs.declared.message.Message.TheVariants as messages
 use Rattle.tree_state.specs.Nodes.{Path}
 use Rattle.tree_server.specs.Messages.{SpellsMessage, Messages}
-use Rattle.sealed_machine.specs.Laws.{FitsPlain}
 use Rattle.sealed_machine.specs.Runs.{Question, IsAnswerable, AreAnswerable, Talks, silent, told_event, told_reply, told_session}
 use Rattle.sealed_machine.proofs.ShorterValues.{IsWritten, Shrinks, shrinks_same, shrinks_pair, shrinks_path, shrinks_stat, shrinks_node}
 use Rattle.sealed_machine.proofs.ShorterNames.{shrinks_list}
@@ -236,5 +234,5 @@ all_written k w asked ms told bytes a (told_reply q r f asked' ms' ns' x i h) (b
 all_written k w asked ms told bytes a (told_session r asked' ms' ns' h) (body, more, one, fits, cut, rest) =
     one_more (messages.Connected r) ms' body more bytes fits cut (record { bytes = body; is = one; within = omega arith }) (all_written k w asked' ms' ns' more a h rest)
 
-pub fits_plain : FitsPlain
+pub fits_plain : (k : EntryKeys) (asked : List Question) (ms told : List Message) (bytes : List ℕ) → AreKeys k.names → AreAnswerable asked → Talks k asked ms told → Messages told bytes → (plain_bytes : List ℕ) × Messages ms plain_bytes × (length plain_bytes ≤ length bytes)
 fits_plain k asked ms told bytes w a h s = let r = all_written k w asked ms told bytes a h s in (r.bytes, r.spelled, r.within)

@@ -1,7 +1,6 @@
 -- Values that can be written in no more bytes than the store's: texts, contents, Stats.
-use Rattle.std.proofs.Common.{◌≡◌, zero, suc, ◌<◌, ◌≤◌, ◌+◌, ◌^◌, ℕ, ℤ, pos, negsuc, List, [], ◌∷◌, ◌++◌, Option, Some, None, length, refl, sym, ap, subst, ◌∙◌, arith, length-append}
+use Rattle.std.proofs.Common.{◌≡◌, zero, suc, ◌≤◌, ℕ, ℤ, pos, negsuc, List, [], ◌∷◌, ◌++◌, Option, Some, None, length, refl, sym, ap, subst, ◌∙◌, arith, length-append}
 use Rattle.std.proofs.lemmas.Int.{ints}
-use Rattle.std.specs.Prelude.{◌≤ℤ◌, ◌-ℤ◌}
 use Rattle.std.specs.Int.{w32}
 use Rattle.std.specs.Int.RustNames.{FitsSigned}
 use Rattle.std.specs.Str.{IsAscii, IsUtf8}
@@ -13,7 +12,6 @@ use Rattle.path_seal.specs.Sealed.{Keys, SealName, sealed, SealPath}
 use Rattle.payload_seal.specs.Payload.{Accepts, content_of}
 use Rattle.zk_records.specs.Stats.{stat, stat_fields}
 use Rattle.zk_records.specs.declared.stat.Stat.{Stat}
-use Rattle.zk_messages.proofs.Sizes.{size, spelled_size}
 use Rattle.reply_rewrite.specs.Stats.{IsPlainLength, IsPlainStat, IsPlainContent}
 use Rattle.tree_state.specs.Nodes.{Path, size_of}
 use Rattle.sealed_machine.proofs.SealedNames.{sealed_root, sealed_child, sealed_longer}

@@ -15,7 +15,10 @@ use Rattle.tree_state.specs.Plain.{plain}
 use Rattle.tree_state.specs.Step.{Act}
 use Rattle.tree_state.specs.Trees.{IsNaming}
 use Rattle.tree_server.specs.Follows.{Shown}
-use Rattle.tree_server.specs.Out.{out}
+use Rattle.tree_server.specs.Acts.{AreActs}
+use Rattle.tree_server.specs.Orders.{FitsOutput}
+use Rattle.tree_server.specs.Out.{outputs, out}
+use Rattle.tree_server.specs.declared.entry.Entry.{Entry}
 use Rattle.tree_server.specs.Zips.{Zips}
 use Rattle.sealed_machine.specs.Veils.{IsIvOf, VeilsCommand, asked_of}
 use Rattle.tree_server.specs.Messages.{Messages}
@@ -43,8 +46,11 @@ pub record StaysInStep : Type 0 where
   pub messages : (k : EntryKeys) (naming : Naming) (acts sealed_acts : List Act) (c : ℕ) (told : List Message) → AreKeys k.names → IsNaming (IsSealedName k.names) naming
       → Zips (VeilsAct k) acts sealed_acts → Shown (out naming sealed_acts c) told → Talks k (all_asked c start acts) (out plain acts c) told
 
--- where the store's messages can be written, a frame each, so can the plain ones, each in a frame that is no longer
-abbrev pub FitsPlain : Type 0
-FitsPlain =
-    (k : EntryKeys) (asked : List Question) (ms told : List Message) (bytes : List ℕ) → AreKeys k.names → AreAnswerable asked
-    → Talks k asked ms told → Messages told bytes → (plain_bytes : List ℕ) × Messages ms plain_bytes × (length plain_bytes ≤ length bytes)
+-- where what a store tells can be written, a frame for each message, so can what the plain machine sends, in no more bytes; and
+-- then each answer of the plain machine fits a frame
+pub record FitsPlain : Type 0 where
+  pub messages : (k : EntryKeys) (asked : List Question) (ms told : List Message) (bytes : List ℕ) → AreKeys k.names → AreAnswerable asked
+      → Talks k asked ms told → Messages told bytes → (plain_bytes : List ℕ) × Messages ms plain_bytes × (length plain_bytes ≤ length bytes)
+  pub answers : (k : EntryKeys) (naming : Naming) (order : List Entry) (acts sealed_acts : List Act) (told : ℕ → List Message) (bytes : ℕ → List ℕ) → AreKeys k.names → IsNaming (IsSealedName k.names) naming
+      → AreActs order acts → Zips (VeilsAct k) acts sealed_acts → ((c : ℕ) → Shown (out naming sealed_acts c) (told c)) → ((c : ℕ) → Messages (told c) (bytes c))
+      → All FitsOutput (outputs plain start acts)

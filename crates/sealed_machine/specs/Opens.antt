@@ -1,10 +1,9 @@
 -- What the plain machine sends, beside what a store's sends.
-use Rattle.std.specs.Prelude.{◌≡◌, ℕ, List, map, false, Some, None}
+use Rattle.std.specs.Prelude.{◌≡◌, List, map, false, None}
 use Rattle.path_seal.specs.Sealed.{Keys}
 use Rattle.payload_seal.specs.declared.keys.EntryKeys.{EntryKeys}
 use Rattle.request_queue.specs.declared.asked.Asked.{Asked}
 use Rattle.zk_messages.specs.declared.reply.Outcome.{Outcome}
-use Rattle.zk_messages.specs.declared.reply.Outcome.TheVariants as outcomes
 use Rattle.zk_messages.specs.declared.reply.Reply.{Reply}
 use Rattle.zk_messages.specs.Replies.{HasShape}
 use Rattle.reply_rewrite.specs.Admits.{Admits, AdmitsOutcome}

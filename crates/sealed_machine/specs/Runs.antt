@@ -18,9 +18,8 @@ use Rattle.tree_state.specs.Step.{Act, asks as asking, step}
 use Rattle.tree_state.specs.Plain.{plain}
 use Rattle.sealed_machine.specs.Seals.{IsSealedState}
 use Rattle.sealed_machine.specs.Veils.{VeilsCommand, asked_of}
-use Rattle.tree_server.specs.Follows.{ShowsReply, ShowsMessage}
+use Rattle.tree_server.specs.Follows.{ShowsReply}
 use Rattle.sealed_machine.specs.Opens.{SealedNext}
-use Rattle.tree_server.specs.Zips.{Zips}
 
 -- a request goes on veiled, and all else is the same
 unfoldable pub VeilsAct : EntryKeys → Act → Act → Type 0
@@ -38,7 +37,8 @@ unfoldable pub InStep : EntryKeys → Naming → State → State → List Act �
 InStep k naming s t [] [] = IsSealedState k s t
 InStep k naming s t [] (g ∷ gs) = ⊥
 InStep k naming s t (f ∷ fs) [] = ⊥
-InStep k naming s t (f ∷ fs) (g ∷ gs) = SealedNext k (act_asked f) (step plain s f) (step naming t g) × InStep k naming (step plain s f).state (step naming t g).state fs gs
+InStep k naming s t (f ∷ fs) (g ∷ gs) =
+    SealedNext k (act_asked f) (step plain s f) (step naming t g) × InStep k naming (step plain s f).state (step naming t g).state fs gs
 
 -- ---- one connection
 
@@ -78,16 +78,23 @@ all_asked c s (f ∷ fs) = asked_in c s f ++ all_asked c (step plain s f).state 
 -- thing asked: a client is told the plain reply, in whatever order the store tells the names of a child list
 pub data Matches (k : EntryKeys) : List Question → List Message → List Message → Type 0 where
   nothing : Matches k [] [] []
-  seen_event : (e f : Event) (asked : List Question) (ms ns : List Message) → IsPlainEvent k.names f e → Matches k asked ms ns → Matches k asked (messages.Event e ∷ ms) (messages.Event f ∷ ns)
-  seen_reply : (q : Question) (r f : Reply) (asked : List Question) (ms ns : List Message) → r.xid ≡ q.xid → ((told : Reply) → ShowsReply f told → Admits k q.asked told r None) → Matches k asked ms ns → Matches k (q ∷ asked) (messages.Reply r ∷ ms) (messages.Reply f ∷ ns)
-  seen_session : (r : ConnectResponse) (asked : List Question) (ms ns : List Message) → Matches k asked ms ns → Matches k asked (messages.Connected r ∷ ms) (messages.Connected r ∷ ns)
+  seen_event : (e f : Event) (asked : List Question) (ms ns : List Message) → IsPlainEvent k.names f e → Matches k asked ms ns
+      → Matches k asked (messages.Event e ∷ ms) (messages.Event f ∷ ns)
+  seen_reply : (q : Question) (r f : Reply) (asked : List Question) (ms ns : List Message) → r.xid ≡ q.xid
+      → ((told : Reply) → ShowsReply f told → Admits k q.asked told r None) → Matches k asked ms ns
+      → Matches k (q ∷ asked) (messages.Reply r ∷ ms) (messages.Reply f ∷ ns)
+  seen_session : (r : ConnectResponse) (asked : List Question) (ms ns : List Message) → Matches k asked ms ns
+      → Matches k asked (messages.Connected r ∷ ms) (messages.Connected r ∷ ns)
 
 -- the same of what the store tells in place of its machine's messages
 pub data Talks (k : EntryKeys) : List Question → List Message → List Message → Type 0 where
   silent : Talks k [] [] []
-  told_event : (e f : Event) (asked : List Question) (ms ns : List Message) → IsPlainEvent k.names f e → Talks k asked ms ns → Talks k asked (messages.Event e ∷ ms) (messages.Event f ∷ ns)
-  told_reply : (q : Question) (r f : Reply) (asked : List Question) (ms ns : List Message) → r.xid ≡ q.xid → Admits k q.asked f r None → Talks k asked ms ns → Talks k (q ∷ asked) (messages.Reply r ∷ ms) (messages.Reply f ∷ ns)
-  told_session : (r : ConnectResponse) (asked : List Question) (ms ns : List Message) → Talks k asked ms ns → Talks k asked (messages.Connected r ∷ ms) (messages.Connected r ∷ ns)
+  told_event : (e f : Event) (asked : List Question) (ms ns : List Message) → IsPlainEvent k.names f e → Talks k asked ms ns
+      → Talks k asked (messages.Event e ∷ ms) (messages.Event f ∷ ns)
+  told_reply : (q : Question) (r f : Reply) (asked : List Question) (ms ns : List Message) → r.xid ≡ q.xid → Admits k q.asked f r None → Talks k asked ms ns
+      → Talks k (q ∷ asked) (messages.Reply r ∷ ms) (messages.Reply f ∷ ns)
+  told_session : (r : ConnectResponse) (asked : List Question) (ms ns : List Message) → Talks k asked ms ns
+      → Talks k asked (messages.Connected r ∷ ms) (messages.Connected r ∷ ns)
 
 -- no answer to a connect request is among them
 unfoldable pub HasNoConnected : List Message → Type 0

@@ -1,6 +1,6 @@
 //! Laws of the machine on both sides. Each is the contract of a function that does nothing, so that whoever needs one can cite it.
 
-ghost use Rattle.sealed_machine.specs.Laws.{HasSealedNaming, VeilsWhatIsAsked, KeepsWhatIsAsked, StaysInStep};
+ghost use Rattle.sealed_machine.specs.Laws.{HasSealedNaming, VeilsWhatIsAsked, KeepsWhatIsAsked, StaysInStep, FitsPlain};
 
 /// The law that the names of an enclave are a naming: whether a text is a sealed stem can be decided.
 pub fn sealed_naming()
@@ -21,4 +21,9 @@ pub fn keeps_what_is_asked()
 /// connection stands message by message beside what the plain machine sends.
 pub fn stays_in_step()
     ensures { StaysInStep }
+{}
+
+/// The law that what the plain machine sends can be written where what a store tells can, in frames that are no longer.
+pub fn fits_plain()
+    ensures { FitsPlain }
 {}
