@@ -26,6 +26,7 @@ use Rattle.sealed_machine.proofs.NoTrace.{first_none, nothing_to}
 use Rattle.sealed_machine.proofs.SealedChanges.{OpensEvent, OpensOutput}
 use Rattle.sealed_machine.proofs.SealedAnswers.{VeilsCommand}
 
+-- of two lists of messages
 pub quiet-append : (a b : List Message) → HasNoConnected a → HasNoConnected b → HasNoConnected (a ++ b)
 unfolding HasNoConnected
 quiet-append [] b h j = j

@@ -196,6 +196,7 @@ refused_kept : (code : ℤ) (a : Command) → a ≡ refused code → asked_of a 
 unfolding asked_of
 refused_kept code a e = ap asked_of e
 
+-- and what its command asks is kept
 pub command_kept : (r : Request) (a : Command) → IsCommand r a → kept.Asks r (asked_of a)
 unfolding IsCommand kept.Asks
 command_kept r a (inl (code, h, e)) = inl (code, h, refused_kept code a e)

@@ -125,6 +125,7 @@ closed_none : (c : ℕ) (session : ℤ) (d : ℕ) (s : State) → NoTrace c s �
 unfolding closed
 closed_none c session d s n = record { watches_are = others_none c d s.watches n.watches_are; sessions_are = none_without c session s.sessions n.sessions_are }
 
+-- the answer to a command of another connection
 pub answer_quiet : (c d : ℕ) (naming : Naming) (at : Moment) (s : State) (command : Command) → (d == c) ≡ false → NoTrace c s → QuietAnswer c (answer naming at d s command)
 unfolding answer
 answer_quiet c d naming at s (refused code) e n = error_told c s code n
@@ -240,6 +241,7 @@ IsOthers c (asking d xid command now) = (d == c) ≡ false
 IsOthers c (loses d) = Unit {0}
 IsOthers c (expires session now) = Unit {0}
 
+-- an act of others
 pub step_quiet : (c : ℕ) (naming : Naming) (s : State) (act : Act) → IsOthers c act → NoTrace c s → QuietNext c (step naming s act)
 unfolding IsOthers step answer_connect expired
 step_quiet c naming s (connects d asked given now) e n = record { after = connected_none c d given now s e n; outputs_are = first_none c _ [] e (nothing_to c) }
@@ -249,6 +251,7 @@ step_quiet c naming s (expires session now) e n =
     let q = all_deleted_quiet c (next_zxid s) (ephemerals session s.nodes) s n.watches_are in
     record { after = ended_none c session _ (still c s _ _ n q); outputs_are = q.events_are }
 
+-- at the start no connection has a session or a watch
 pub start_none : (c : ℕ) → NoTrace c start
 unfolding start_at session_of
 start_none c = record { watches_are = refl; sessions_are = refl }

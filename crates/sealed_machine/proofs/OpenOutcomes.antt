@@ -58,6 +58,7 @@ error_shown : (code : ℤ) (told : Outcome) → Shows (outcomes.Error code) told
 unfolding Shows
 error_shown code told h = h
 
+-- an error is told as it is
 pub error_opens : (k : EntryKeys) (asked : Asked) (code : ℤ) → (IsRefused asked → ⊥) → Opens k asked (outcomes.Error code) (outcomes.Error code)
 error_opens k asked code f = told_as k asked (outcomes.Error code) (outcomes.Error code) (error_shown code) tt (failure_told k asked (outcomes.Error code) (outcomes.Error code) code f refl refl)
 

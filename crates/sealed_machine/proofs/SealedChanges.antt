@@ -39,6 +39,7 @@ Alike R (failed c) (done b) = ⊥
 Alike R (done a) (failed d) = ⊥
 Alike R (done a) (done b) = R a b
 
+-- a thing that is needed is there on both sides, or on none
 pub need_alike : {A A' B B' : Type 0} (Q : A → A' → Type 0) (R : B → B' → Type 0) (a : Option A) (a' : Option A') (code : ℤ) (f : A → Trial ℤ B) (f' : A' → Trial ℤ B')
     → Both Q a a' → ((x : A) (y : A') → Q x y → Alike R (f x) (f' y)) → Alike R (need a code f) (need a' code f')
 unfolding need Alike Both
@@ -47,6 +48,7 @@ need_alike Q R None (Some y) code f f' h g = absurd h
 need_alike Q R (Some x) None code f f' h g = absurd h
 need_alike Q R (Some x) (Some y) code f f' h g = g x y h
 
+-- a change is refused on both sides, or on none
 pub refuse_alike : {B B' : Type 0} (R : B → B' → Type 0) (b c : Bool) (code : ℤ) (r : Trial ℤ B) (r' : Trial ℤ B') → b ≡ c → (b ≡ false → Alike R r r') → Alike R (refuse b code r) (refuse c code r')
 unfolding refuse Alike
 refuse_alike R true true code r r' e h = refl
@@ -61,6 +63,7 @@ done_alike E R a b h = h
 -- ---- events
 
 module _ (k : EntryKeys) (w : AreKeys k.names) where
+  -- an event on both sides
   pub one_event : (kind : ℤ) (p q : Path) (c d : ℕ) → IsNodeKind kind → Seals k.names p q → c ≡ d → OpensOutput k.names (event_to kind p c) (event_to kind q d)
   unfolding event_to OpensEvent
   one_event kind p q c d is s e = record {
@@ -73,6 +76,7 @@ module _ (k : EntryKeys) (w : AreKeys k.names) where
   same_events kind p q is s [] = tt
   same_events kind p q is s (c ∷ cs) = (one_event kind p q c c is s refl, same_events kind p q is s cs)
 
+  -- an event to each of some connections
   pub events_zip : (kind : ℤ) (p q : Path) (cs ds : List ℕ) → IsNodeKind kind → Seals k.names p q → cs ≡ ds → Zips (OpensOutput k.names) (events_to kind p cs) (events_to kind q ds)
   events_zip kind p q cs ds is s e = subst (λ (l : List ℕ). Zips (OpensOutput k.names) (events_to kind p cs) (events_to kind q l)) e (same_events kind p q is s cs)
 
@@ -116,6 +120,7 @@ module _ (k : EntryKeys) (w : AreKeys k.names) where
     stat_of_new n stem p _ _ (stats k w (n ∷ p) (m ∷ q) b c sc x es fs z),
   )
 
+  -- a node is made
   pub created_sealed : (at : Moment) (p q : Path) (n m stem : List ℕ) (b c : Node) (s t : State) (d : Option (List ℕ)) (sequential ephemeral stat : Bool)
       → Seals k.names p q → Seals k.names (n ∷ p) (m ∷ q) → IsLast sequential stem → IsGiven sequential stem n → SealedNode k (n ∷ p) b c → is_there s.nodes (n ∷ p) ≡ false → IsSealedState k s t
       → SealedEffect k (create p stem d sequential ephemeral stat) (created at p n b stat s) (created at q m c stat t)
@@ -135,6 +140,7 @@ module _ (k : EntryKeys) (w : AreKeys k.names) where
         (events_zip (pos 4) p q _ _ (omega (arith, ints), omega (arith, ints)) sp (told_agree k w on_children p q sp s.watches t.watches h.watches));
   }
 
+  -- a node is removed
   pub deleted_sealed : (z v : ℤ) (p q : Path) (s t : State) → Seals k.names p q → IsSealedState k s t → SealedEffect k (delete p v) (deleted z p s) (deleted z q t)
   unfolding deleted left_by_deletion deletion_events end_events IsPlainResult op_asked
   deleted_sealed z v p q s t sp h =
@@ -158,6 +164,7 @@ module _ (k : EntryKeys) (w : AreKeys k.names) where
             (events_zip (pos 4) (above p) (above q) _ _ (omega (arith, ints), omega (arith, ints)) up c);
       }
 
+  -- a content is written
   pub updated_sealed : (at : Moment) (v : ℤ) (p q : Path) (d y : Option (List ℕ)) (b c : Node) (s t : State) → Seals k.names p q → Holds k.payloads p d y → SealedNode k p b c → IsSealedState k s t
       → SealedEffect k (set_content p d v) (updated at p d b s) (updated at q y c t)
   unfolding updated content_events IsPlainResult op_asked

@@ -234,6 +234,7 @@ inr_command : (v : Request) (b : Command) → Refuses v None → Asks v b → Is
 unfolding IsCommand
 inr_command v b ok h = inr (ok, h)
 
+-- a request that no rule refuses asks for its command
 pub asks_of : (r : Request) (a : Command) → Refuses r None → IsCommand r a → Asks r a
 unfolding IsCommand
 asks_of r a ok (inl (code, refuses, e)) = absurd (none-some code (one_outcome r None (Some code) ok refuses))
