@@ -1,9 +1,9 @@
 -- The printed texts.
-use Rattle.std.specs.Prelude.{ℕ, ◌+◌, List, [], ◌∷◌, ◌++◌, length, codes}
+use Rattle.std.specs.Prelude.{ℕ, ℤ, ◌+◌, List, [], ◌∷◌, ◌++◌, length, codes}
 use Rattle.std.specs.Fmt.{decimal, signed_decimal}
 use Rattle.hex.specs.Hex.{encode_lower}
-use Rattle.world_core.specs.declared.entry.Entry.{Entry}
-use Rattle.world_core.specs.declared.entry.Entry.TheVariants.{Connect, Take}
+use Rattle.tree_server.specs.declared.entry.Entry.{Entry}
+use Rattle.tree_server.specs.declared.entry.Entry.TheVariants.{Connect, Take, Lost, Expire}
 
 -- a line: a word and what follows it, then a line feed
 unfoldable pub line : List ℕ → List ℕ → List ℕ
@@ -30,6 +30,18 @@ field word text = word ++ text
 unfoldable pub line_feed : List ℕ
 line_feed = 10 ∷ []
 
+-- the line of the loss of a connection
+abbrev pub lost_text : ℕ → List ℕ
+lost_text connection = field (codes "lost ") (decimal connection) ++ line_feed
+
+-- the line of the end of a session
+abbrev pub expire_text : ℤ → ℤ → ℤ → List ℕ
+expire_text session zxid now =
+    field (codes "expire ") (signed_decimal session)
+    ++ field (codes " zxid ") (signed_decimal zxid)
+    ++ field (codes " at ") (signed_decimal now)
+    ++ line_feed
+
 -- the line of an entry
 abbrev pub entry_text : Entry → List ℕ
 entry_text (Connect connection asked session timeout password zxid now) =
@@ -46,6 +58,8 @@ entry_text (Take connection xid request zxid now) =
     ++ field (codes " zxid ") (signed_decimal zxid)
     ++ field (codes " at ") (signed_decimal now)
     ++ line_feed
+entry_text (Lost connection) = lost_text connection
+entry_text (Expire session zxid now) = expire_text session zxid now
 
 unfoldable pub entries_text : List Entry → List ℕ
 entries_text [] = []

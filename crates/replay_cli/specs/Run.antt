@@ -6,7 +6,7 @@ use Rattle.replay_cli.specs.Show.{IsShown}
 use Rattle.replay_cli.specs.Printed.{Shown, world_text}
 use Rattle.replay_cli.specs.Script.{IsScript, opened, sent, drained}
 use Rattle.replay_cli.specs.declared.script.Event.{Event}
-use Rattle.world_core.specs.declared.entry.Entry.{Entry}
+use Rattle.tree_server.specs.declared.entry.Entry.{Entry}
 use Rattle.world_core.specs.FirstForm.{IsFirstForm}
 use Rattle.world_core.specs.Headline.{Headline}
 

@@ -2,11 +2,11 @@
 
 ghost use Rattle.std.specs.Prelude.{◌≡◌, ◌++◌, IfOk, OnOk, string_bytes};
 ghost use Rattle.std.specs.Fmt.{signed_decimal};
-ghost use Rattle.replay_cli.specs.Printed.{line, bytes_text, connection_text, field, line_feed, entry_text, entries_text, order_text};
+ghost use Rattle.replay_cli.specs.Printed.{line, bytes_text, connection_text, field, line_feed, entry_text, lost_text, expire_text, entries_text, order_text};
 
 use jute_core::Memory;
 use std::alloc::{AllocError, Global};
-use world_core::Entry;
+use tree_server::Entry;
 
 /// Bytes in hex, or a dash where there are none.
 pub fn bytes_text(alloc: Global, bytes: &[u8]) -> Result<String, AllocError>
@@ -123,7 +123,43 @@ pub fn push_entry(alloc: Global, into: &mut String, entry: &Entry) -> Result<(),
             end_line(into)?;
             Ok(())
         }
+        Entry::Lost { connection } => {
+            push_lost(alloc, into, *connection)?;
+            Ok(())
+        }
+        Entry::Expire { session, zxid, now } => {
+            push_expire(alloc, into, *session, *zxid, *now)?;
+            Ok(())
+        }
     }
+}
+
+// Appends the line of the loss of a connection.
+fn push_lost(alloc: Global, into: &mut String, connection: u32) -> Result<(), Memory>
+    ensures { OnOk result (string_bytes into.new ≡ string_bytes into.old ++ lost_text connection) }
+{
+    let number = connection.to_string(alloc)?;
+    push_field(into, "lost ", number.as_str())?;
+    end_line(into)?;
+    Ok(())
+}
+
+// Appends the line of the end of a session.
+fn push_expire(
+    alloc: Global,
+    into: &mut String,
+    session: i64,
+    zxid: i64,
+    now: i64,
+) -> Result<(), Memory>
+    ensures { OnOk result
+        (string_bytes into.new ≡ string_bytes into.old ++ expire_text session zxid now) }
+{
+    push_number(alloc, into, "expire ", session)?;
+    push_number(alloc, into, " zxid ", zxid)?;
+    push_number(alloc, into, " at ", now)?;
+    end_line(into)?;
+    Ok(())
 }
 
 /// Appends what is printed of an order.

@@ -11,8 +11,8 @@ ghost use Rattle.reply_rewrite.specs.Short.{HasShortParts};
 
 use crate::finding::{Cause, NotPlain};
 use crate::rows::{
-    unveil_create, unveil_create2, unveil_get_acl, unveil_get_children, unveil_get_children2, unveil_get_content,
-    unveil_multi, unveil_stat_of, unveil_sync,
+    unveil_create, unveil_create2, unveil_get_acl, unveil_get_children, unveil_get_children2,
+    unveil_get_content, unveil_multi, unveil_stat_of, unveil_sync,
 };
 use jute_core::Memory;
 use payload_seal::EntryKeys;

@@ -1,12 +1,12 @@
 -- What is handed up for a client's body can be written, and what is kept of it is short.
-use Rattle.std.proofs.Common.{◌≡◌, ◌≢◌, ◌<◌, ◌≤◌, ◌^◌, ◌+◌, ◌*◌, ℕ, ℤ, pos, negsuc, suc, Bool, true, false, List, [], ◌∷◌, length, map, Option, Some, None, inl, inr, refl, sym, ap, ◌∙◌, subst, arith}
+use Rattle.std.proofs.Common.{◌≡◌, ◌<◌, ◌≤◌, ◌^◌, ℕ, ℤ, pos, suc, List, [], ◌∷◌, length, map, Option, Some, None, inl, inr, refl, sym, ap, subst, arith}
 use Rattle.std.specs.Prelude.{All, IfSome, sum_by}
 use Rattle.std.specs.List.{AllZip}
 use Rattle.std.proofs.lemmas.List.{length-map}
 use Rattle.std.proofs.lemmas.List.Elements.{All-nil, All-cons}
 use Rattle.std.proofs.lemmas.List.Sums.{sum_by-cons}
 use Rattle.std.proofs.lemmas.Option.{none-some}
-use Rattle.jute_core.specs.Jute.{Jute, Value, buffer, ustring, vector}
+use Rattle.jute_core.specs.Jute.{Value, buffer, ustring, vector}
 use Rattle.jute_core.specs.Lists.{AreShort}
 use Rattle.zk_path.specs.Paths.{IsTextOf, text_of}
 use Rattle.zk_records.specs.Acls.{acl, acl_fields, acls, acls_fields, IsShortAcl, AreShortAcls}
@@ -34,7 +34,7 @@ use Rattle.zk_messages.specs.declared.request.Op.TheVariants as ops
 use Rattle.zk_messages.specs.declared.request.Request.{Request}
 use Rattle.zk_messages.specs.declared.request.Request.TheVariants as requests
 use Rattle.request_rewrite.specs.Asks.{Asks, AsksOp, AsksPlain}
-use Rattle.request_rewrite.specs.Laws.{IsShortWhenAsked, IsWritable, IsWritableWhenVeiled}
+use Rattle.request_rewrite.specs.Laws.{IsShortWhenAsked, IsWritableWhenVeiled}
 use Rattle.request_rewrite.specs.Veil.{Veil, Veils, stand_in}
 use Rattle.request_rewrite.proofs.Growth.{veil_grown}
 

@@ -10,9 +10,9 @@ ghost use Rattle.request_rewrite.specs.Veil.{Veil, stand_in};
 
 use crate::ops::payloads_of_op;
 use crate::requests::{
-    Veiled, veil_close, veil_create, veil_create2, veil_delete, veil_exists, veil_get_acl, veil_get_children,
-    veil_get_children2, veil_get_content, veil_multi, veil_ping, veil_set_acl, veil_set_content,
-    veil_sync, veil_watches,
+    Veiled, veil_close, veil_create, veil_create2, veil_delete, veil_exists, veil_get_acl,
+    veil_get_children, veil_get_children2, veil_get_content, veil_multi, veil_ping, veil_set_acl,
+    veil_set_content, veil_sync, veil_watches,
 };
 use jute_core::{Memory, Text};
 use payload_seal::{EntryKeys, IvSource};

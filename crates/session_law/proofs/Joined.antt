@@ -27,8 +27,9 @@ use Rattle.entry_session.specs.Veiled.{SpellsItems}
 use Rattle.entry_session.specs.declared.ending.Ending.TheVariants as endings
 use Rattle.entry_session.proofs.HandedUp.{HandedUp, handed}
 use Rattle.entry_session.proofs.SentItems.{takes_what_was_sent}
-use Rattle.session_law.specs.Fill.{Fills, items_in}
-use Rattle.session_law.specs.Law.{Connection, IsJoined, IsFront}
+use Rattle.tree_server.specs.Fill.{Fills, items_in}
+use Rattle.session_law.specs.Law.{Connection, IsJoined}
+use Rattle.tree_server.specs.Fill.{IsFront}
 use Rattle.session_law.proofs.Words.{IsOrderly}
 use Rattle.session_law.proofs.Orders.{PlainActs, plain_acts, legal_filled, connects_once}
 use Rattle.session_law.proofs.Filling.{IsFilled, Filled, fill_all, fills_more, taken_front, all_sealed}

@@ -20,8 +20,9 @@ use Rattle.entry_session.specs.Stands.{Stand}
 use Rattle.entry_session.specs.Veiled.{SpellsItems}
 use Rattle.entry_session.specs.declared.ending.Ending.TheVariants as endings
 use Rattle.entry_session.proofs.HandedUp.{VeilsUpTo, HandedUp, whole_veiled}
-use Rattle.session_law.specs.Fill.{Fills, items_in}
-use Rattle.session_law.specs.Law.{Connection, IsJoined, IsServed, IsFront, EndsInClose, VeilsEntry}
+use Rattle.tree_server.specs.Fill.{Fills, items_in}
+use Rattle.session_law.specs.Law.{Connection, IsJoined, IsServed, VeilsEntry}
+use Rattle.tree_server.specs.Fill.{IsFront, EndsInClose}
 use Rattle.session_law.proofs.Filling.{same_number}
 use Rattle.session_law.proofs.Closing.{Closing}
 use Rattle.session_law.proofs.Ends.{closed_ends}

@@ -5,9 +5,7 @@ use Rattle.path_seal.specs.Sealed.{AreKeys}
 use Rattle.payload_seal.specs.declared.keys.EntryKeys.{EntryKeys}
 use Rattle.zk_messages.specs.Sent.{Sent, client_limit}
 use Rattle.zk_messages.specs.declared.request.Item.{Item}
-use Rattle.zk_messages.specs.declared.request.Item.TheVariants.{Requests}
 use Rattle.zk_messages.specs.declared.request.Request.{Request}
-use Rattle.zk_messages.specs.declared.request.Request.TheVariants.{Close}
 use Rattle.request_rewrite.specs.Veil.{Veil}
 use Rattle.counter_enclave.specs.Enclave.{IsSealedName}
 use Rattle.tree_state.specs.declared.message.Message.{Message}
@@ -31,12 +29,7 @@ use Rattle.entry_session.specs.Veiled.{VeilsFrom, SpellsItems}
 use Rattle.entry_session.specs.Sides.{IsSide, bytes_of}
 use Rattle.entry_session.specs.declared.ending.Ending.{Ending}
 use Rattle.entry_session.specs.declared.ending.Ending.TheVariants as endings
-use Rattle.session_law.specs.Fill.{Fills, items_in}
-
--- the front of a list
-pub record IsFront {A : Type 0} (front whole : List A) : Type 0 where
-  pub more : List A
-  pub is : whole ≡ front ++ more
+use Rattle.tree_server.specs.Fill.{Fills, items_in, IsFront, EndsInClose}
 
 -- ---- what is given
 
@@ -102,12 +95,6 @@ IsHonestEnd (Some (endings.QueueFull weight)) = Unit {0}
 IsHonestEnd (Some endings.IvSpent) = Unit {0}
 IsHonestEnd (Some endings.Closed) = Unit {0}
 IsHonestEnd (Some e) = IsGivenEnding e
-
--- the last of these items is a closeSession
-unfoldable pub EndsInClose : List Item → Type 0
-EndsInClose [] = ⊥
-EndsInClose (Requests xid Close ∷ []) = Unit {0}
-EndsInClose (item ∷ items) = EndsInClose items
 
 -- the request is sealed under IVs, each of an epoch that has a key
 pub record IsVeiled (k : EntryKeys) (plain veiled : Request) : Type 0 where

@@ -5,3 +5,4 @@ pub mod Acts
 pub mod Orders
 pub mod Follows
 pub mod Sending
+pub mod Fill

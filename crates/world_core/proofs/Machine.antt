@@ -1,11 +1,11 @@
 -- A run of the plain machine over items of the first form.
 use Rattle.std.proofs.Common.{◌≡◌, ℕ, ℤ, pos, List, [], ◌∷◌, ◌++◌, length, false, refl, inr, ◌∙◌, sym, ap, subst, arith}
-use Rattle.std.specs.Prelude.{if◌then◌else◌, ◌≤ℤ◌, ◌==◌, codes}
+use Rattle.std.specs.Prelude.{All, ◌≤ℤ◌, ◌==◌, codes}
 use Rattle.std.proofs.lemmas.Int.{ints}
-use Rattle.std.proofs.lemmas.List.Elements.{All-nil}
+use Rattle.std.proofs.lemmas.List.Elements.{All-nil, All-cons}
 use Rattle.zk_records.specs.declared.connect.ConnectRequest.{ConnectRequest}
 use Rattle.zk_records.specs.declared.path_watch.PathWatch.{PathWatch}
-use Rattle.world_core.specs.declared.entry.Entry.{Entry}
+use Rattle.tree_server.specs.declared.entry.Entry.{Entry}
 use Rattle.zk_messages.specs.declared.request.Request.{Request}
 use Rattle.zk_messages.specs.declared.request.Request.TheVariants.{Exists, Ping, Close}
 use Rattle.zk_messages.specs.declared.request.Item.{Item}
@@ -13,19 +13,22 @@ use Rattle.zk_messages.specs.declared.request.Item.TheVariants.{Asks, Requests}
 use Rattle.zk_messages.specs.Refuses.{Refuses, Rule}
 use Rattle.zk_path.specs.Paths.{IsComponent, text_of}
 use Rattle.tree_state.specs.declared.message.Message.{Message}
-use Rattle.tree_state.specs.State.{State, start_at, start, session_of, has_connection}
+use Rattle.tree_state.specs.declared.message.Message.TheVariants as messages
+use Rattle.tree_state.specs.State.{State, start_at, start, session_of, session_at, has_connection}
 use Rattle.tree_state.specs.Commands.{Command, IsCommand, Asks as Commands, stat_at, ping, close}
 use Rattle.tree_state.specs.Step.{Act, asks, Next, clamped, given_to, step}
 use Rattle.tree_state.specs.Plain.{plain}
-use Rattle.world_core.specs.Acts.{IsAsked, AreActs}
-use Rattle.world_core.specs.Out.{outputs, to_connection, out}
-use Rattle.world_core.specs.Order.{HasSession, MayCome, zxid_after, LegalFrom, HasNoConnect, ConnectsOnce, Legal}
-use Rattle.world_core.specs.Fill.{fill, filled, without_first}
+use Rattle.tree_server.specs.Acts.{IsAct, IsAsked, AreActs}
+use Rattle.tree_server.specs.Zips.{Zips}
+use Rattle.tree_server.specs.Out.{outputs, to_connection, out}
+use Rattle.tree_server.specs.Orders.{IsFree, HasSession, MayCome, HasLast, FitsAnswer, FitsOutput, LegalFrom, HasNoConnect, ConnectsOnce, Legal}
+use Rattle.tree_server.specs.Messages.{Messages}
+use Rattle.tree_server.specs.Fill.{Fills, FillsEntry, left_after, without_first}
 use Rattle.world_core.specs.Veiled.{VeilsItems, VeilsOrder}
 use Rattle.world_core.specs.FirstForm.{IsFirstConnect, AreFirstRequests, AreFirst}
 use Rattle.world_core.specs.Headline.{passwords, AreAt}
 use Rattle.world_core.specs.FirstOrder.{entry_of, act_of, message_of, order_of, acts_of, messages_of}
-use Rattle.world_core.proofs.Steps.{opened, ended, next_of, connect_step, exists_step, ping_step, close_step}
+use Rattle.world_core.proofs.Steps.{opened, ended, output_of, next_of, connect_step, exists_step, ping_step, close_step}
 
 -- What requests of the first form are to the machine
 
@@ -45,7 +48,7 @@ asked_as : (xid : ℤ) (request : Request) (command : Command) → IsCommand req
 asked_as xid request command h = record { command = command; is_command = h; is = refl }
 
 requests_acts : (items : List Item) → AreFirstRequests items → AreActs (order_of items) (acts_of items)
-unfolding AreFirstRequests order_of acts_of
+unfolding AreFirstRequests order_of acts_of Zips IsAct
 requests_acts [] h = tt
 requests_acts (Asks asked ∷ items) h = absurd h
 requests_acts (Requests xid (Exists asked) ∷ items) h = (asked_as xid _ _ (exists_command asked h.0.0 h.0.1), requests_acts items h.1)
@@ -59,13 +62,13 @@ requests_acts (Requests xid request ∷ items) h = absurd h.0
 record Steps (s t : State) (item : Item) : Type 0 where
   step : step plain s (act_of item) ≡ next_of t item
   may : MayCome passwords s (entry_of item)
-  last_is : zxid_after (entry_of item) ≡ t.last
+  last_is : HasLast (entry_of item) t.last
 
 legal_more : (s t : State) (item : Item) (es : List Entry) (acts : List Act) → Steps s t item → LegalFrom plain passwords t es acts
     → LegalFrom plain passwords s (entry_of item ∷ es) (act_of item ∷ acts)
 unfolding LegalFrom
 legal_more s t item es acts one h = (
-  record { may = one.may; last_is = one.last_is ∙ sym (ap (λ (n : Next). n.state.last) one.step) },
+  record { may = one.may; last_is = subst (λ (n : Next). HasLast (entry_of item) n.state.last) (sym one.step) one.last_is },
   subst (λ (n : Next). LegalFrom plain passwords n.state es acts) (sym one.step) h,
 )
 
@@ -86,19 +89,23 @@ unfolding session_of has_connection
 has_session timeout = record { session = pos 1; live = refl }
 
 exists_steps : (timeout xid : ℤ) (asked : PathWatch) → Steps (opened timeout) (opened timeout) (Requests xid (Exists asked))
+unfolding MayCome HasLast
 exists_steps timeout xid asked = record { step = exists_step timeout xid asked; may = has_session timeout; last_is = refl }
 
 ping_steps : (timeout xid : ℤ) → Steps (opened timeout) (opened timeout) (Requests xid Ping)
+unfolding MayCome HasLast
 ping_steps timeout xid = record { step = ping_step timeout xid; may = has_session timeout; last_is = refl }
 
 close_steps : (timeout xid : ℤ) → Steps (opened timeout) ended (Requests xid Close)
+unfolding MayCome HasLast
 close_steps timeout xid = record { step = close_step timeout xid; may = has_session timeout; last_is = refl }
 
 first_may : (asked : ConnectRequest) → IsFirstConnect asked → MayCome passwords start (entry_of (Asks asked))
-unfolding start_at given_to
-first_may asked h = record { seen = subst (λ (z : ℤ). z ≤ℤ pos 0) (sym h.1) (omega (arith, ints)); given_is = rw h.2 refl }
+unfolding start_at given_to MayCome IsFree session_at
+first_may asked h = record { free = tt; seen = subst (λ (z : ℤ). z ≤ℤ pos 0) (sym h.1) (omega (arith, ints)); given_is = rw h.2 refl }
 
 connect_steps : (asked : ConnectRequest) → IsFirstConnect asked → Steps start (opened (clamped asked.timeout)) (Asks asked)
+unfolding HasLast
 connect_steps asked h = record { step = connect_step asked; may = first_may asked h; last_is = refl }
 
 -- Requests in an open session
@@ -144,13 +151,53 @@ requests_connect_not (Asks asked ∷ items) h = absurd h
 requests_connect_not (Requests xid Close ∷ items) h = requests_connect_not items (subst AreFirstRequests (sym h) tt)
 requests_connect_not (Requests xid request ∷ items) h = requests_connect_not items h.1
 
+-- Each answer can be sent
+
+fits_answer : (m : Message) (ms : List Message) (bytes : List ℕ) → Messages (m ∷ ms) bytes → FitsAnswer m
+unfolding Messages FitsAnswer
+fits_answer (messages.Event e) ms bytes (body, more, spelled, fits, cut, others) = tt
+fits_answer (messages.Reply r) ms bytes (body, more, spelled, fits, cut, others) = (body, spelled, fits)
+fits_answer (messages.Connected r) ms bytes (body, more, spelled, fits, cut, others) = (body, spelled, fits)
+
+first_fits : (item : Item) (items : List Item) (bytes : List ℕ) → Messages (messages_of (item ∷ items)) bytes → FitsAnswer (message_of item)
+unfolding messages_of
+first_fits item items bytes m = fits_answer (message_of item) (messages_of items) bytes m
+
+rest_bytes : (item : Item) (items : List Item) (bytes : List ℕ) → Messages (messages_of (item ∷ items)) bytes → (more : List ℕ) × Messages (messages_of items) more
+unfolding messages_of Messages
+rest_bytes item items bytes (body, more, spelled, fits, cut, others) = (more, others)
+
+no_answers : (s : State) → All FitsOutput (outputs plain s (acts_of []))
+unfolding outputs acts_of
+no_answers s = All-nil FitsOutput
+
+answers_more : (s t : State) (item : Item) (acts : List Act) → Steps s t item → FitsAnswer (message_of item) → All FitsOutput (outputs plain t acts) → All FitsOutput (outputs plain s (act_of item ∷ acts))
+unfolding outputs
+answers_more s t item acts one fits more = subst (λ (n : Next). All FitsOutput (n.outputs ++ outputs plain n.state acts)) (sym one.step) (All-cons FitsOutput (output_of item) (outputs plain t acts) fits more)
+
+requests_fit : (timeout : ℤ) (items : List Item) (bytes : List ℕ) → AreFirstRequests items → Messages (messages_of items) bytes → All FitsOutput (outputs plain (opened timeout) (acts_of items))
+unfolding AreFirstRequests acts_of
+requests_fit timeout [] bytes h m = no_answers (opened timeout)
+requests_fit timeout (Asks asked ∷ items) bytes h m = absurd h
+requests_fit timeout (Requests xid (Exists asked) ∷ items) bytes h m =
+    let more = rest_bytes (Requests xid (Exists asked)) items bytes m in
+    answers_more (opened timeout) (opened timeout) (Requests xid (Exists asked)) (acts_of items) (exists_steps timeout xid asked) (first_fits (Requests xid (Exists asked)) items bytes m) (requests_fit timeout items more.0 h.1 more.1)
+requests_fit timeout (Requests xid Ping ∷ items) bytes h m =
+    let more = rest_bytes (Requests xid Ping) items bytes m in
+    answers_more (opened timeout) (opened timeout) (Requests xid Ping) (acts_of items) (ping_steps timeout xid) (first_fits (Requests xid Ping) items bytes m) (requests_fit timeout items more.0 h.1 more.1)
+requests_fit timeout (Requests xid Close ∷ items) bytes h m =
+    answers_more (opened timeout) ended (Requests xid Close) (acts_of items) (close_steps timeout xid) (first_fits (Requests xid Close) items bytes m)
+    (subst (λ (is : List Item). All FitsOutput (outputs plain ended (acts_of is))) (sym h) (no_answers ended))
+requests_fit timeout (Requests xid request ∷ items) bytes h m = absurd h.0
+
 -- The whole run
 
-pub run_legal : (items : List Item) → AreFirst items → Legal plain passwords (order_of items) (acts_of items)
-unfolding AreFirst order_of acts_of ConnectsOnce
-run_legal [] h = record { are_acts = tt; steps = legal_none start; once = tt }
-run_legal (Requests xid request ∷ items) h = absurd h
-run_legal (Asks asked ∷ items) h = record {
+pub run_legal : (items : List Item) (bytes : List ℕ) → AreFirst items → Messages (messages_of items) bytes → Legal plain passwords (order_of items) (acts_of items)
+unfolding AreFirst order_of acts_of ConnectsOnce Zips IsAct
+run_legal [] bytes h m = record { are_acts = tt; steps = legal_none start; once = tt; answers_fit = no_answers start }
+run_legal (Requests xid request ∷ items) bytes h m = absurd h
+run_legal (Asks asked ∷ items) bytes h m = record {
+  answers_fit = answers_more start (opened (clamped asked.timeout)) (Asks asked) (acts_of items) (connect_steps asked h.0) (first_fits (Asks asked) items bytes m) (requests_fit (clamped asked.timeout) items (rest_bytes (Asks asked) items bytes m).0 h.1 (rest_bytes (Asks asked) items bytes m).1);
   are_acts = (refl, requests_acts items h.1);
   steps = legal_more start (opened (clamped asked.timeout)) (Asks asked) (order_of items) (acts_of items) (connect_steps asked h.0) (requests_legal (clamped asked.timeout) items h.1);
   once = requests_connect_not items h.1;
@@ -165,25 +212,20 @@ run_outputs (Asks asked ∷ items) h =
 
 -- What was sent in place of what was handed on
 
-filled_same : (item : Item) (items : List Item) → filled (entry_of item) (item ∷ items) ≡ entry_of item
-filled_same (Asks asked) items = refl
-filled_same (Requests xid request) items = refl
+fills_first : (item : Item) (items : List Item) (sent : ℕ → List Item) → sent 1 ≡ item ∷ items → FillsEntry (entry_of item) sent (entry_of item)
+unfolding FillsEntry
+fills_first (Asks asked) items sent e = (asked, items, e, refl)
+fills_first (Requests xid request) items sent e = (xid, request, items, e, refl)
 
-fill_more : (item : Item) (items : List Item) (es fs : List Entry) (sent : ℕ → List Item) → sent 1 ≡ item ∷ items
-    → fill es (λ c. if c == 1 then without_first (sent c) else sent c) ≡ fs → fill (entry_of item ∷ es) sent ≡ entry_of item ∷ fs
-unfolding fill
-fill_more (Asks asked) items es fs sent e h = rw (e, h) refl
-fill_more (Requests xid request) items es fs sent e h = rw (e, h) refl
+fills_rest : (item : Item) (items : List Item) (sent : ℕ → List Item) → sent 1 ≡ item ∷ items → left_after (entry_of item) sent 1 ≡ items
+unfolding left_after
+fills_rest (Asks asked) items sent e = ap without_first e
+fills_rest (Requests xid request) items sent e = ap without_first e
 
-fill_none : (sent : ℕ → List Item) → fill [] sent ≡ []
-unfolding fill
-fill_none sent = refl
-
-pub fill_same : (items more : List Item) (sent : ℕ → List Item) → sent 1 ≡ items ++ more → fill (order_of items) sent ≡ order_of items
-unfolding order_of
-fill_same [] more sent e = fill_none sent
-fill_same (item ∷ items) more sent e =
-    fill_more item (items ++ more) (order_of items) (order_of items) sent e (fill_same items more (λ c. if c == 1 then without_first (sent c) else sent c) (ap without_first e))
+pub fills_same : (items more : List Item) (sent : ℕ → List Item) → sent 1 ≡ items ++ more → Fills (order_of items) sent (order_of items)
+unfolding order_of Fills
+fills_same [] more sent e = tt
+fills_same (item ∷ items) more sent e = (fills_first item (items ++ more) sent e, fills_same items more (left_after (entry_of item) sent) (fills_rest item (items ++ more) sent e))
 
 pub veils_same : (items : List Item) → AreFirstRequests items → VeilsOrder (order_of items) (order_of items) × VeilsItems items items
 unfolding AreFirstRequests order_of VeilsOrder VeilsItems

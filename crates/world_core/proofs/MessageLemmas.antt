@@ -1,13 +1,11 @@
--- What writing a message appends.
-use Rattle.std.proofs.Common.{◌≡◌, ℕ, ℤ, pos, ◌+◌, ◌≤◌, ◌^◌, List, ◌++◌, length, Option, Some, None, Bool, true, false, Result, Ok, Err, ap, ◌∙◌, arith, length-append}
-use Rattle.std.specs.Prelude.{OnOk, ◌<◌}
+-- How long the answers are, and that a buffer that was added is a frame.
+use Rattle.std.proofs.Common.{◌≡◌, ℕ, ℤ, pos, ◌+◌, ◌≤◌, ◌^◌, List, ◌++◌, length, Option, Some, None, Bool, true, false, ap, ◌∙◌, arith, length-append}
+use Rattle.std.specs.Prelude.{◌<◌}
 use Rattle.jute_core.specs.Jute.{Jute, Value, Spells, int, long, boolean, buffer, pair}
 use Rattle.jute_core.specs.Frames.{frame}
-use Rattle.jute_core.specs.Position.{Adds, Appends}
-use Rattle.jute_core.specs.declared.held.Memory.{Memory}
+use Rattle.jute_core.specs.Position.{Adds}
 use Rattle.zk_messages.specs.Forms.{SpellsForm}
 use Rattle.zk_messages.specs.Replies.{SpellsOutcome, SpellsReply}
-use Rattle.zk_messages.specs.Sending.{AddsBytes}
 use Rattle.zk_messages.specs.declared.reply.Outcome.TheVariants.{Empty, Stat as HasStat}
 use Rattle.zk_messages.specs.declared.reply.Shape.TheVariants as shapes
 use Rattle.zk_records.specs.Connect.{older_response, SpellsConnected}
@@ -15,17 +13,12 @@ use Rattle.zk_records.specs.Headers.{reply_header}
 use Rattle.zk_records.specs.Stats.{stat, stat_fields}
 use Rattle.zk_records.specs.declared.stat.Stat.{Stat}
 use Rattle.tree_state.specs.Step.{clamped, read_only_of}
-use Rattle.world_core.specs.Messages.{SpellsMessage}
+use Rattle.tree_server.specs.Messages.{SpellsMessage}
 use Rattle.world_core.specs.Headline.{first_password}
 use Rattle.world_core.specs.FirstOrder.{root_stat, message_of}
 use Rattle.zk_messages.specs.declared.request.Request.TheVariants.{Exists, Close}
 use Rattle.zk_messages.specs.declared.request.Item.{Item}
 use Rattle.zk_messages.specs.declared.request.Item.TheVariants.{Asks, Requests}
-
--- a value that was appended, as bytes that its spellings are
-pub value_added : (r : Result Unit Memory) (old new : List ℕ) (t : Jute) (v : Value t) (Is : List ℕ → Type 0) → ((b : List ℕ) → Spells t v b → Is b) → Appends old new t v r → OnOk r (AddsBytes old new Is)
-value_added (Ok x) old new t v Is f p = record { bytes = p.bytes; is = f p.bytes p.spelled; added = p.added }
-value_added (Err e) old new t v Is f p = tt
 
 -- How long the answers are
 

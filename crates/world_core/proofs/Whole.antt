@@ -4,7 +4,7 @@ use Rattle.std.specs.Prelude.{IsTrue}
 use Rattle.std.proofs.lemmas.List.{append-nil, take-append-drop, drop_all, drop_at}
 use Rattle.jute_core.specs.Frames.{frame, FitsFrame, IsRest}
 use Rattle.jute_core.proofs.OneStream.{one_frame}
-use Rattle.world_core.specs.declared.entry.Entry.{Entry}
+use Rattle.tree_server.specs.declared.entry.Entry.{Entry}
 use Rattle.zk_messages.specs.declared.request.Request.TheVariants.{Close}
 use Rattle.zk_messages.specs.declared.request.Item.{Item}
 use Rattle.zk_messages.specs.declared.request.Item.TheVariants.{Asks, Requests}
@@ -13,20 +13,20 @@ use Rattle.world_core.specs.declared.form.Stage.{Stage}
 use Rattle.world_core.specs.declared.form.Stage.TheVariants.{Fresh, Closed}
 use Rattle.zk_messages.specs.Items.{IsItem}
 use Rattle.zk_messages.specs.Sent.{client_limit, Items, is_first, HasNoFrame}
-use Rattle.world_core.specs.Messages.{SpellsMessage, Messages}
+use Rattle.tree_server.specs.Messages.{SpellsMessage, Messages}
 use Rattle.tree_state.specs.Plain.{plain}
-use Rattle.world_core.specs.Order.{Legal}
-use Rattle.world_core.specs.Fill.{fill, sent_by_first}
+use Rattle.tree_server.specs.Orders.{Legal}
+use Rattle.tree_server.specs.Fill.{Fills, EndsInClose}
 use Rattle.world_core.specs.Veiled.{VeilsOrder}
 use Rattle.world_core.specs.FirstForm.{AreFirstRequests, AreFirst, IsFirstForm, frame_limit}
 use Rattle.world_core.specs.FirstOrder.{entry_of, message_of, order_of, acts_of, messages_of}
 use Rattle.world_core.specs.declared.runs.World.{World}
 use Rattle.world_core.specs.Taking.{TakesFrame}
 use Rattle.world_core.specs.Stages.{is_fresh, MayFollow, stage_after, AllFollow, FormFrom}
-use Rattle.world_core.specs.Headline.{passwords, AreAt, EndsInClose, Headline}
+use Rattle.world_core.specs.Headline.{passwords, sent_by_first, AreAt, Headline}
 use Rattle.world_core.proofs.ItemLemmas.{first_after, items_append, items_extend, frame_some, fits_frame, no_item}
 use Rattle.world_core.proofs.Orders.{order_of-append, messages_of-append}
-use Rattle.world_core.proofs.Machine.{run_legal, run_outputs, fill_same, run_veils, run_at_start, run_each}
+use Rattle.world_core.proofs.Machine.{run_legal, run_outputs, fills_same, run_veils, run_at_start, run_each}
 use Rattle.world_core.proofs.Forms.{follow_more, fresh_after, form_rest, form_opens}
 
 -- Fronts of items of the first form
@@ -188,8 +188,7 @@ headline sent drained left stage frames order received handed closed g none form
     subst (λ (l : List ℕ). Items true (g.items ++ form.items) [] l) whole
     (items_append true g.items form.items (left ++ drop drained sent) [] (take drained sent ++ drop drained sent) (items_extend true g.items left (take drained sent) (drop drained sent) g.spelled) later) in
     let first : AreFirst g.items = first_front g.items form.items (g.forms form.items form.form) in
-    let same : fill order (sent_by_first (g.items ++ form.items)) ≡ order_of g.items =
-    ap (λ (es : List Entry). fill es (sent_by_first (g.items ++ form.items))) g.order_is ∙ fill_same g.items form.items (sent_by_first (g.items ++ form.items)) refl in
+    let legal : Legal plain passwords (order_of g.items) (acts_of g.items) = run_legal g.items received first g.received_is in
     record {
       items = g.items ++ form.items;
       is_sent = record { rest = []; spelled = all; ended = no_item (is_first (g.items ++ form.items)) };
@@ -200,10 +199,12 @@ headline sent drained left stage frames order received handed closed g none form
       no_frame = no_whole_frame (is_fresh stage) form.items left (drop drained sent) none form.spelled;
       each = ap length g.order_is ∙ run_each g.items;
       handed_acts = acts_of g.items;
-      legal = subst (λ (es : List Entry). Legal plain passwords es (acts_of g.items)) (sym g.order_is) (run_legal g.items first);
+      legal = subst (λ (es : List Entry). Legal plain passwords es (acts_of g.items)) (sym g.order_is) legal;
+      plain_order = order_of g.items;
+      fills = subst (λ (es : List Entry). Fills es (sent_by_first (g.items ++ form.items)) (order_of g.items)) (sym g.order_is) (fills_same g.items form.items (sent_by_first (g.items ++ form.items)) refl);
       acts = acts_of g.items;
-      filled_legal = subst (λ (es : List Entry). Legal plain passwords es (acts_of g.items)) (sym same) (run_legal g.items first);
-      veils = subst (λ (es : List Entry). VeilsOrder es order) (sym same) (subst (VeilsOrder (order_of g.items)) (sym g.order_is) (run_veils g.items first).0);
+      filled_legal = legal;
+      veils = subst (VeilsOrder (order_of g.items)) (sym g.order_is) (run_veils g.items first).0;
       at_start = subst (AreAt (pos 0)) (sym g.order_is) (run_at_start g.items);
       received_is = subst (λ (ms : List Message). Messages ms received) (sym (run_outputs g.items first)) g.received_is;
       handed_is = record { veiled = g.items; each = (run_veils g.items first).1; spelled = g.handed_is };

@@ -1,19 +1,17 @@
 -- What holds of a run of one connection: the bytes that the client receives are what the plain machine sends it over the
 -- one order in which the store took the requests, and the bytes handed to the store are those requests, veiled.
-use Rattle.std.specs.Prelude.{◌≡◌, ℕ, ℤ, pos, ◌∷◌, [], ◌++◌, ◌↔◌, List, length, take, Bool, IsTrue, true}
+use Rattle.std.specs.Prelude.{◌≡◌, ℕ, ℤ, pos, ◌∷◌, [], ◌==◌, ◌↔◌, List, length, take, Bool, IsTrue, true, if◌then◌else◌}
 use Rattle.jute_core.specs.Frames.{IsRest}
 use Rattle.tree_state.specs.Step.{Act}
-use Rattle.world_core.specs.declared.entry.Entry.{Entry}
-use Rattle.world_core.specs.declared.entry.Entry.TheVariants.{Connect, Take}
+use Rattle.tree_server.specs.declared.entry.Entry.{Entry}
+use Rattle.tree_server.specs.declared.entry.Entry.TheVariants.{Connect, Take, Lost, Expire}
 use Rattle.zk_messages.specs.declared.request.Item.{Item}
-use Rattle.zk_messages.specs.declared.request.Item.TheVariants.{Requests}
-use Rattle.zk_messages.specs.declared.request.Request.TheVariants.{Close}
 use Rattle.zk_messages.specs.Sent.{Items, Sent}
-use Rattle.world_core.specs.Messages.{Messages}
+use Rattle.tree_server.specs.Messages.{Messages}
 use Rattle.tree_state.specs.Plain.{plain}
-use Rattle.world_core.specs.Out.{out}
-use Rattle.world_core.specs.Order.{Legal}
-use Rattle.world_core.specs.Fill.{fill, sent_by_first}
+use Rattle.tree_server.specs.Out.{out}
+use Rattle.tree_server.specs.Orders.{Legal}
+use Rattle.tree_server.specs.Fill.{Fills, IsFront, EndsInClose}
 use Rattle.world_core.specs.Veiled.{Veiled, VeilsOrder}
 
 -- the password of session 1 under a password key of zeros
@@ -28,21 +26,16 @@ passwords session = first_password
 abbrev pub IsAt : ℤ → Entry → Type 0
 IsAt time (Connect c asked session timeout password zxid now) = now ≡ time
 IsAt time (Take c xid request zxid now) = now ≡ time
+IsAt time (Lost c) = Unit {0}
+IsAt time (Expire session zxid now) = now ≡ time
 
 unfoldable pub AreAt : ℤ → List Entry → Type 0
 AreAt time [] = Unit {0}
 AreAt time (e ∷ es) = IsAt time e × AreAt time es
 
--- the last of these items is a closeSession
-unfoldable pub EndsInClose : List Item → Type 0
-EndsInClose [] = ⊥
-EndsInClose (Requests xid Close ∷ []) = Unit {0}
-EndsInClose (item ∷ items) = EndsInClose items
-
--- the front of a list
-pub record IsFront {A : Type 0} (front whole : List A) : Type 0 where
-  pub more : List A
-  pub is : whole ≡ front ++ more
+-- what is sent where there is one connection, which is connection 1
+abbrev pub sent_by_first : List Item → ℕ → List Item
+sent_by_first items c = if c == 1 then items else []
 
 -- `sent` is all that the client sent, of which the first `drained` bytes stood before the last `drain`
 pub record Headline (sent : List ℕ) (drained : ℕ) (order : List Entry) (received handed : List ℕ) (closed : Bool) : Type 0 where
@@ -60,9 +53,11 @@ pub record Headline (sent : List ℕ) (drained : ℕ) (order : List Entry) (rece
   pub handed_acts : List Act
   pub legal : Legal plain passwords order handed_acts
   -- and so may it be with what the client sent in place of what was handed on, as these acts of the plain machine
+  pub plain_order : List Entry
+  pub fills : Fills order (sent_by_first items) plain_order
   pub acts : List Act
-  pub filled_legal : Legal plain passwords (fill order (sent_by_first items)) acts
-  pub veils : VeilsOrder (fill order (sent_by_first items)) order
+  pub filled_legal : Legal plain passwords plain_order acts
+  pub veils : VeilsOrder plain_order order
   pub at_start : AreAt (pos 0) order
   -- the client received all that the plain machine sends it over these acts
   pub received_is : Messages (out plain acts 1) received

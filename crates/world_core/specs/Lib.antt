@@ -1,13 +1,7 @@
-pub mod Messages
-pub mod Acts
-pub mod Out
-pub mod Order
-pub mod Fill
 pub mod Veiled
 pub mod FirstForm
 pub mod FirstOrder
 pub mod Headline
 pub mod Stages
 pub mod Prefixes
-pub mod Sending
 pub mod Taking

@@ -5,8 +5,8 @@ use Rattle.zk_messages.specs.declared.request.Request.{Request}
 use Rattle.zk_messages.specs.declared.request.Request.TheVariants.{Exists, Ping, Close}
 use Rattle.zk_messages.specs.declared.request.Item.{Item}
 use Rattle.zk_messages.specs.declared.request.Item.TheVariants.{Asks, Requests}
-use Rattle.world_core.specs.declared.entry.Entry.{Entry}
-use Rattle.world_core.specs.declared.entry.Entry.TheVariants.{Connect, Take}
+use Rattle.tree_server.specs.declared.entry.Entry.{Entry}
+use Rattle.tree_server.specs.declared.entry.Entry.TheVariants.{Take}
 use Rattle.zk_messages.specs.Sent.{Items}
 
 -- the sealed form of a request; so far the others have none
@@ -37,8 +37,8 @@ pub record Veiled (items : List Item) (bytes : List ℕ) : Type 0 where
 -- a plain entry, and the store's: the request of the store's is the veiled one, and all else is the same
 abbrev pub VeilsEntry : Entry → Entry → Type 0
 VeilsEntry (Take c xid plain zxid now) (Take d number request at then_) = (d ≡ c) × (number ≡ xid) × (at ≡ zxid) × (then_ ≡ now) × Veil plain request
-VeilsEntry (Take c xid plain zxid now) (Connect d asked session timeout password at then_) = ⊥
-VeilsEntry (Connect c asked session timeout password zxid now) e = e ≡ Connect c asked session timeout password zxid now
+VeilsEntry (Take c xid plain zxid now) e = ⊥
+VeilsEntry h e = e ≡ h
 
 unfoldable pub VeilsOrder : List Entry → List Entry → Type 0
 VeilsOrder [] [] = Unit {0}

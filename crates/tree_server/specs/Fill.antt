@@ -1,10 +1,11 @@
 -- An order with what the clients sent in place of what the store was handed: the Connect of each connection has the first item, and
 -- its k-th Take the k-th request, of what that connection sent.
-use Rattle.std.specs.Prelude.{◌≡◌, ℕ, ℤ, ◌==◌, List, [], ◌∷◌, if◌then◌else◌}
+use Rattle.std.specs.Prelude.{◌≡◌, ℕ, ℤ, ◌==◌, List, [], ◌∷◌, ◌++◌, if◌then◌else◌}
 use Rattle.zk_records.specs.declared.connect.ConnectRequest.{ConnectRequest}
 use Rattle.zk_messages.specs.declared.request.Item.{Item}
 use Rattle.zk_messages.specs.declared.request.Item.TheVariants as items
 use Rattle.zk_messages.specs.declared.request.Request.{Request}
+use Rattle.zk_messages.specs.declared.request.Request.TheVariants.{Close}
 use Rattle.tree_server.specs.declared.entry.Entry.{Entry}
 use Rattle.tree_server.specs.declared.entry.Entry.TheVariants.{Connect, Take, Lost, Expire}
 
@@ -40,3 +41,16 @@ items_in c (Connect d asked session timeout password zxid now ∷ es) = if c == 
 items_in c (Take d xid request zxid now ∷ es) = if c == d then items.Requests xid request ∷ items_in c es else items_in c es
 items_in c (Lost d ∷ es) = items_in c es
 items_in c (Expire session zxid now ∷ es) = items_in c es
+
+-- ---- of items
+
+-- the front of a list
+pub record IsFront {A : Type 0} (front whole : List A) : Type 0 where
+  pub more : List A
+  pub is : whole ≡ front ++ more
+
+-- the last of these items is a closeSession
+unfoldable pub EndsInClose : List Item → Type 0
+EndsInClose [] = ⊥
+EndsInClose (items.Requests xid Close ∷ []) = Unit {0}
+EndsInClose (i ∷ is) = EndsInClose is
