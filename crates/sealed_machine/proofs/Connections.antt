@@ -89,7 +89,8 @@ module _ (k : EntryKeys) (w : AreKeys k.names) where
   unfolding to_connection
   to_one c d m = refl
 
-  replied_match : (c d : ℕ) (xid : ℤ) (command : Command) (a b : Answer) → SealedAnswer k command a b → Matches k (asked_if (d == c) (record { xid = xid; asked = asked_of command })) (to_connection c (replied d xid a).outputs) (to_connection c (replied d xid b).outputs)
+  replied_match : (c d : ℕ) (xid : ℤ) (command : Command) (a b : Answer) → SealedAnswer k command a b
+      → Matches k (asked_if (d == c) (record { xid = xid; asked = asked_of command })) (to_connection c (replied d xid a).outputs) (to_connection c (replied d xid b).outputs)
   unfolding replied
   replied_match c d xid command a b h =
       let r : Reply = record { xid = xid; zxid = a.state.last; outcome = a.outcome } in
@@ -127,7 +128,8 @@ module _ (k : EntryKeys) (w : AreKeys k.names) where
     unfolding step
     loses_match c d s t = events_match c [] [] nothing_zips
 
-    expires_match : (c : ℕ) (session now : ℤ) (s t : State) → IsSealedState k s t → Matches k [] (to_connection c (step plain s (expires session now)).outputs) (to_connection c (step naming t (expires session now)).outputs)
+    expires_match : (c : ℕ) (session now : ℤ) (s t : State) → IsSealedState k s t
+        → Matches k [] (to_connection c (step plain s (expires session now)).outputs) (to_connection c (step naming t (expires session now)).outputs)
     unfolding step expired
     expires_match c session now s t h =
         let e = all_deleted_sealed k w (next_zxid s) _ _ s t (ephemerals_zip k w session s.nodes t.nodes h.nodes) h in
@@ -139,7 +141,8 @@ module _ (k : EntryKeys) (w : AreKeys k.names) where
     along c s t f g e h = subst (λ (x : Act). Matches k [] (to_connection c (step plain s f).outputs) (to_connection c (step naming t x).outputs)) e h
 
     -- an act on both sides, as one connection sees it
-    pub step_match : (c : ℕ) (s t : State) (f g : Act) → VeilsAct k f g → IsSealedState k s t → Matches k (asked_in c s f) (to_connection c (step plain s f).outputs) (to_connection c (step naming t g).outputs)
+    pub step_match : (c : ℕ) (s t : State) (f g : Act) → VeilsAct k f g → IsSealedState k s t
+        → Matches k (asked_in c s f) (to_connection c (step plain s f).outputs) (to_connection c (step naming t g).outputs)
     unfolding VeilsAct asked_in
     step_match c s t (asking d x a now) (asking e y b then_) v h = asks_match c d e x y a b now then_ s t v.0 v.1 v.2 v.3 h
     step_match c s t (asking d x a now) g v h = absurd v

@@ -49,7 +49,8 @@ need_alike Q R (Some x) None code f f' h g = absurd h
 need_alike Q R (Some x) (Some y) code f f' h g = g x y h
 
 -- a change is refused on both sides, or on none
-pub refuse_alike : {B B' : Type 0} (R : B → B' → Type 0) (b c : Bool) (code : ℤ) (r : Trial ℤ B) (r' : Trial ℤ B') → b ≡ c → (b ≡ false → Alike R r r') → Alike R (refuse b code r) (refuse c code r')
+pub refuse_alike : {B B' : Type 0} (R : B → B' → Type 0) (b c : Bool) (code : ℤ) (r : Trial ℤ B) (r' : Trial ℤ B') → b ≡ c → (b ≡ false → Alike R r r')
+    → Alike R (refuse b code r) (refuse c code r')
 unfolding refuse Alike
 refuse_alike R true true code r r' e h = refl
 refuse_alike R true false code r r' e h = absurd cc
@@ -165,7 +166,8 @@ module _ (k : EntryKeys) (w : AreKeys k.names) where
       }
 
   -- a content is written
-  pub updated_sealed : (at : Moment) (v : ℤ) (p q : Path) (d y : Option (List ℕ)) (b c : Node) (s t : State) → Seals k.names p q → Holds k.payloads p d y → SealedNode k p b c → IsSealedState k s t
+  pub updated_sealed : (at : Moment) (v : ℤ) (p q : Path) (d y : Option (List ℕ)) (b c : Node) (s t : State) → Seals k.names p q → Holds k.payloads p d y
+      → SealedNode k p b c → IsSealedState k s t
       → SealedEffect k (set_content p d v) (updated at p d b s) (updated at q y c t)
   unfolding updated content_events IsPlainResult op_asked
   updated_sealed at v p q d y b c s t sp hd x h = record {
@@ -194,7 +196,8 @@ module _ (k : EntryKeys) (w : AreKeys k.names) where
   unfoldable NameFor : Path → List ℕ → Bool → List ℕ → List ℕ → Type 0
   NameFor p n sequential name other = SealsName k.names p name other × IsGiven sequential n name
 
-  names_for : (naming : Naming) → IsNaming (IsSealedName k.names) naming → (p q : Path) (n m : List ℕ) (d y : Option (List ℕ)) (sequential : Bool) (b c : Node) → VeilsCreate k p n d sequential q m y → SealedNode k p b c
+  names_for : (naming : Naming) → IsNaming (IsSealedName k.names) naming → (p q : Path) (n m : List ℕ) (d y : Option (List ℕ)) (sequential : Bool) (b c : Node)
+      → VeilsCreate k p n d sequential q m y → SealedNode k p b c
       → Both (NameFor p n sequential) (name_for plain p n sequential b) (name_for naming q m sequential c)
   unfolding name_for NameFor IsGiven IsLast plain
   names_for naming names p q n m d y false b c r x = both_some (NameFor p n false) n m (record { legal = r.last; is = r.name }, refl)
@@ -220,7 +223,9 @@ module _ (k : EntryKeys) (w : AreKeys k.names) where
       refuse_alike R _ _ node_exists _ _ (there k w (name ∷ p) (other ∷ q) c s.nodes t.nodes h.nodes)
       (λ free. done_alike ℤ R _ _ (created_sealed at p q name other n _ _ s t d sequential ephemeral stat r.path c r.last x.1 (fresh at (name ∷ p) d y ephemeral (r.content name x.1)) free h))
 
-  create_sealed : (naming : Naming) → IsNaming (IsSealedName k.names) naming → (at : Moment) (s t : State) (p q : Path) (n m : List ℕ) (d y : Option (List ℕ)) (sequential ephemeral stat : Bool) → VeilsCreate k p n d sequential q m y → IsSealedState k s t
+  create_sealed : (naming : Naming) → IsNaming (IsSealedName k.names) naming
+      → (at : Moment) (s t : State) (p q : Path) (n m : List ℕ) (d y : Option (List ℕ)) (sequential ephemeral stat : Bool) → VeilsCreate k p n d sequential q m y
+      → IsSealedState k s t
       → Alike (SealedEffect k (create p n d sequential ephemeral stat)) (perform plain at s (create p n d sequential ephemeral stat)) (perform naming at t (create q m y sequential ephemeral stat))
   unfolding perform
   create_sealed naming names at s t p q n m d y sequential ephemeral stat r h =
@@ -264,7 +269,8 @@ module _ (k : EntryKeys) (w : AreKeys k.names) where
         events = zips_none (OpensOutput k.names);
       }))
 
-  same_mode : (naming : Naming) (at : Moment) (t : State) (q : Path) (m : List ℕ) (y : Option (List ℕ)) (b c e f u v : Bool) (R : Effect → Effect → Type 0) (o : Trial ℤ Effect) → b ≡ c → e ≡ f → u ≡ v
+  same_mode : (naming : Naming) (at : Moment) (t : State) (q : Path) (m : List ℕ) (y : Option (List ℕ)) (b c e f u v : Bool) (R : Effect → Effect → Type 0) (o : Trial ℤ Effect)
+      → b ≡ c → e ≡ f → u ≡ v
       → Alike R o (perform naming at t (create q m y b e u)) → Alike R o (perform naming at t (create q m y c f v))
   same_mode naming at t q m y b c e f u v R o g h j x = subst (λ (z : Trial ℤ Effect). Alike R o z) (λ i. perform naming at t (create q m y (g i) (h i) (j i))) x
 

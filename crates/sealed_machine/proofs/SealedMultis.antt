@@ -99,7 +99,8 @@ failed_results k (d ∷ cs) [] e = absurd (omega (arith, e))
 failed_results k (d ∷ cs) (c ∷ codes) e = (refl, failed_results k cs codes (omega (arith, e)))
 
 -- and that is told as it is
-pub all_failed : (k : Keys) (cs : List Change) (codes : List ℤ) → length codes ≡ length cs → ArePlainResults k (is_failed (map results.Error codes)) (map op_asked cs) (map results.Error codes) (map results.Error codes)
+pub all_failed : (k : Keys) (cs : List Change) (codes : List ℤ) → length codes ≡ length cs
+    → ArePlainResults k (is_failed (map results.Error codes)) (map op_asked cs) (map results.Error codes) (map results.Error codes)
 unfolding ArePlainResults
 all_failed k [] [] e = tt
 all_failed k [] (c ∷ codes) e = absurd (omega (arith, e))

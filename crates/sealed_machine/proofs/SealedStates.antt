@@ -62,7 +62,8 @@ module _ (k : EntryKeys) (w : AreKeys k.names) where
       (λ t. h)
 
   -- a node is changed on both sides
-  pub change_zips : (p q : Path) (f g : Node → Node) → Seals k.names p q → Keeps p f g → (es fs : List Place) → Zips (SealedPlace k) es fs → Zips (SealedPlace k) (change p f es) (change q g fs)
+  pub change_zips : (p q : Path) (f g : Node → Node) → Seals k.names p q → Keeps p f g → (es fs : List Place) → Zips (SealedPlace k) es fs
+      → Zips (SealedPlace k) (change p f es) (change q g fs)
   unfolding change
   change_zips p q f g s x es fs h = zips_map (SealedPlace k) (SealedPlace k) (changed_at p f) (changed_at q g) (changed_place p q f g s x) es fs h
 
@@ -193,7 +194,8 @@ module _ (k : EntryKeys) (w : AreKeys k.names) where
       (λ t. j) (λ t. after_zips u v h us vs j)
 
   -- a watch is added where it is asked for
-  pub watching_if_zips : (b : Bool) (u v : Watch) → SealedWatch k.names u v → (us vs : List Watch) → Zips (SealedWatch k.names) us vs → Zips (SealedWatch k.names) (watching_if b u us) (watching_if b v vs)
+  pub watching_if_zips : (b : Bool) (u v : Watch) → SealedWatch k.names u v → (us vs : List Watch) → Zips (SealedWatch k.names) us vs
+      → Zips (SealedWatch k.names) (watching_if b u us) (watching_if b v vs)
   unfolding watching_if
   watching_if_zips true u v h us vs j = watching_zips u v h us vs j
   watching_if_zips false u v h us vs j = j

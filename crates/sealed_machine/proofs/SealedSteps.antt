@@ -83,7 +83,8 @@ module _ (k : EntryKeys) (w : AreKeys k.names) where
         (answer_sealed k w naming names (record { zxid = next_zxid s; time = now; session = session }) c _ _ a b v (hears_sealed session now s t h))
 
     -- a request is answered in a session, and else dropped
-    pub taken_sealed : (c : ℕ) (xid : ℤ) (a b : Command) (now : ℤ) (s t : State) (o : Option ℤ) → VeilsCommand k a b → IsSealedState k s t → SealedNext k (asked_of a) (taken plain c xid a now s o) (taken naming c xid b now t o)
+    pub taken_sealed : (c : ℕ) (xid : ℤ) (a b : Command) (now : ℤ) (s t : State) (o : Option ℤ) → VeilsCommand k a b → IsSealedState k s t
+        → SealedNext k (asked_of a) (taken plain c xid a now s o) (taken naming c xid b now t o)
     unfolding taken
     taken_sealed c xid a b now s t None v h = record { state = h; outputs = zips_none (Answers k (asked_of a)) }
     taken_sealed c xid a b now s t (Some session) v h = replied_sealed a c xid _ _ (answered c a b now session s t v h)
@@ -95,7 +96,8 @@ module _ (k : EntryKeys) (w : AreKeys k.names) where
         let goal : taken naming c x b now t (session_of c s.sessions) ≡ taken naming d y b then_ t (session_of d t.sessions) = (λ i. taken naming (e i) (f i) b (g i) t (session_of (e i) (h.sessions i))) in
         subst (λ (n : Next). SealedNext k (asked_of a) (taken plain c x a now s (session_of c s.sessions)) n) goal (taken_sealed c x a b now s t (session_of c s.sessions) v h)
 
-    connected_at_sealed : (o : Option Session) (given : Given) (now : ℤ) (c : ℕ) (s t : State) → IsSealedState k s t → IsSealedState k (connected_at o given now c s) (connected_at o given now c t)
+    connected_at_sealed : (o : Option Session) (given : Given) (now : ℤ) (c : ℕ) (s t : State) → IsSealedState k s t
+        → IsSealedState k (connected_at o given now c s) (connected_at o given now c t)
     unfolding connected_at
     connected_at_sealed None given now c s t h = record { nodes = h.nodes; apart = h.apart; sessions = ap (with_session given now c) h.sessions; watches = h.watches; greatest = refl; last = next_sealed s t h }
     connected_at_sealed (Some x) given now c s t h = record { nodes = h.nodes; apart = h.apart; sessions = ap (with_moved given now c) h.sessions; watches = h.watches; greatest = h.greatest; last = next_sealed s t h }
@@ -136,7 +138,8 @@ module _ (k : EntryKeys) (w : AreKeys k.names) where
     unfolding lost
     lost_sealed c s t h = record { nodes = h.nodes; apart = h.apart; sessions = ap (λ (xs : List Session). map (without_connection c) xs) h.sessions; watches = others_zip k w c s.watches t.watches h.watches; greatest = h.greatest; last = h.last }
 
-    connects_sealed : (a : Asked) (c : ℕ) (asked : ConnectRequest) (given : Given) (now : ℤ) (s t : State) → IsSealedState k s t → SealedNext k a (step plain s (connects c asked given now)) (step naming t (connects c asked given now))
+    connects_sealed : (a : Asked) (c : ℕ) (asked : ConnectRequest) (given : Given) (now : ℤ) (s t : State) → IsSealedState k s t
+        → SealedNext k a (step plain s (connects c asked given now)) (step naming t (connects c asked given now))
     unfolding step answer_connect OpensMessage
     connects_sealed a c asked given now s t h = record { state = connected_sealed given now c s t h; outputs = zips_one (Answers k a) _ _ (record { connection = refl; message = refl }) }
 
