@@ -100,11 +100,13 @@ unfolding AreSingle IsApart children name_of_child
 singles p [] h = tt
 singles p (e ∷ es) h = go e.path h.0 (singles p es h.1) (λ n. has_child n p es)
   where
-    under : (q : Path) (o : Option (List ℕ)) → name_under p q ≡ o → is_there es q ≡ false → AreSingle (children p es) → ((n : List ℕ) → has_name n (children p es) ≡ is_there es (n ∷ p)) → AreSingle (cons_option o (children p es))
+    under : (q : Path) (o : Option (List ℕ)) → name_under p q ≡ o → is_there es q ≡ false → AreSingle (children p es)
+        → ((n : List ℕ) → has_name n (children p es) ≡ is_there es (n ∷ p)) → AreSingle (cons_option o (children p es))
     under q None e i m c = m
     under q (Some n) e i m c = (c n ∙ ap (is_there es) (name_under_is p q n e) ∙ i, m)
 
-    go : (q : Path) → is_there es q ≡ false → AreSingle (children p es) → ((n : List ℕ) → has_name n (children p es) ≡ is_there es (n ∷ p)) → AreSingle (cons_option (name_under p q) (children p es))
+    go : (q : Path) → is_there es q ≡ false → AreSingle (children p es) → ((n : List ℕ) → has_name n (children p es) ≡ is_there es (n ∷ p))
+        → AreSingle (cons_option (name_under p q) (children p es))
     go q i m c = under q (name_under p q) refl i m c
 
 -- ---- the order

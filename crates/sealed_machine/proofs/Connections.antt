@@ -41,6 +41,7 @@ Matches-append k a b ms ns us vs (seen_event e f a' ms' ns' s h) j = seen_event 
 Matches-append k a b ms ns us vs (seen_reply c r f a' ms' ns' x s h) j = seen_reply c r f _ _ _ x s (Matches-append k a' b ms' ns' us vs h j)
 Matches-append k a b ms ns us vs (seen_session r a' ms' ns' h) j = seen_session r _ _ _ (Matches-append k a' b ms' ns' us vs h j)
 
+-- what goes to a connection, of two lists of outputs
 pub to_connection-append : (c : ℕ) (os us : List Output) → to_connection c (os ++ us) ≡ to_connection c os ++ to_connection c us
 unfolding to_connection
 to_connection-append c [] us = refl
@@ -61,6 +62,7 @@ module _ (k : EntryKeys) (w : AreKeys k.names) where
   event_first false true m n ms ns x s h = absurd cc
   event_first false false m n ms ns x s h = h
 
+  -- events answer nothing, and each opens to the plain one
   pub events_match : (c : ℕ) (os us : List Output) → Zips (OpensOutput k.names) os us → Matches k [] (to_connection c os) (to_connection c us)
   unfolding Zips to_connection
   events_match c [] [] h = nothing
@@ -87,7 +89,8 @@ module _ (k : EntryKeys) (w : AreKeys k.names) where
   unfolding to_connection
   to_one c d m = refl
 
-  replied_match : (c d : ℕ) (xid : ℤ) (command : Command) (a b : Answer) → SealedAnswer k command a b → Matches k (asked_if (d == c) (record { xid = xid; asked = asked_of command })) (to_connection c (replied d xid a).outputs) (to_connection c (replied d xid b).outputs)
+  replied_match : (c d : ℕ) (xid : ℤ) (command : Command) (a b : Answer) → SealedAnswer k command a b
+      → Matches k (asked_if (d == c) (record { xid = xid; asked = asked_of command })) (to_connection c (replied d xid a).outputs) (to_connection c (replied d xid b).outputs)
   unfolding replied
   replied_match c d xid command a b h =
       let r : Reply = record { xid = xid; zxid = a.state.last; outcome = a.outcome } in
@@ -125,7 +128,8 @@ module _ (k : EntryKeys) (w : AreKeys k.names) where
     unfolding step
     loses_match c d s t = events_match c [] [] nothing_zips
 
-    expires_match : (c : ℕ) (session now : ℤ) (s t : State) → IsSealedState k s t → Matches k [] (to_connection c (step plain s (expires session now)).outputs) (to_connection c (step naming t (expires session now)).outputs)
+    expires_match : (c : ℕ) (session now : ℤ) (s t : State) → IsSealedState k s t
+        → Matches k [] (to_connection c (step plain s (expires session now)).outputs) (to_connection c (step naming t (expires session now)).outputs)
     unfolding step expired
     expires_match c session now s t h =
         let e = all_deleted_sealed k w (next_zxid s) _ _ s t (ephemerals_zip k w session s.nodes t.nodes h.nodes) h in
@@ -136,7 +140,9 @@ module _ (k : EntryKeys) (w : AreKeys k.names) where
         → Matches k [] (to_connection c (step plain s f).outputs) (to_connection c (step naming t g).outputs)
     along c s t f g e h = subst (λ (x : Act). Matches k [] (to_connection c (step plain s f).outputs) (to_connection c (step naming t x).outputs)) e h
 
-    pub step_match : (c : ℕ) (s t : State) (f g : Act) → VeilsAct k f g → IsSealedState k s t → Matches k (asked_in c s f) (to_connection c (step plain s f).outputs) (to_connection c (step naming t g).outputs)
+    -- an act on both sides, as one connection sees it
+    pub step_match : (c : ℕ) (s t : State) (f g : Act) → VeilsAct k f g → IsSealedState k s t
+        → Matches k (asked_in c s f) (to_connection c (step plain s f).outputs) (to_connection c (step naming t g).outputs)
     unfolding VeilsAct asked_in
     step_match c s t (asking d x a now) (asking e y b then_) v h = asks_match c d e x y a b now then_ s t v.0 v.1 v.2 v.3 h
     step_match c s t (asking d x a now) g v h = absurd v
@@ -157,6 +163,7 @@ module _ (k : EntryKeys) (w : AreKeys k.names) where
         subst (λ (l : List Message). Matches k (asked_in c s f ++ all_asked c (step plain s f).state fs) l (to_connection c ((step naming t g).outputs ++ outputs naming (step naming t g).state gs))) (sym (to_connection-append c (step plain s f).outputs (outputs plain (step plain s f).state fs)))
         (subst (λ (l : List Message). Matches k (asked_in c s f ++ all_asked c (step plain s f).state fs) (to_connection c (step plain s f).outputs ++ to_connection c (outputs plain (step plain s f).state fs)) l) (sym (to_connection-append c (step naming t g).outputs (outputs naming (step naming t g).state gs))) j)
 
+    -- a run from the start
     pub all_match : (c : ℕ) (fs gs : List Act) → Zips (VeilsAct k) fs gs → Matches k (all_asked c start fs) (out plain fs c) (out naming gs c)
     all_match c fs gs v = run_match c fs gs start start v (start_sealed k)
 

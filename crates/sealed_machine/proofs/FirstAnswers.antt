@@ -26,6 +26,7 @@ use Rattle.sealed_machine.proofs.NoTrace.{first_none, nothing_to}
 use Rattle.sealed_machine.proofs.SealedChanges.{OpensEvent, OpensOutput}
 use Rattle.sealed_machine.proofs.SealedAnswers.{VeilsCommand}
 
+-- of two lists of messages
 pub quiet-append : (a b : List Message) → HasNoConnected a → HasNoConnected b → HasNoConnected (a ++ b)
 unfolding HasNoConnected
 quiet-append [] b h j = j
@@ -73,7 +74,8 @@ IsNoConnect c f = Unit {0}
 -- ---- the steps after the connect
 
 module _ (k : EntryKeys) (w : AreKeys k.names) (naming : Naming) (names : IsNaming (IsSealedName k.names) naming) where
-  taken_is_quiet : (c d : ℕ) (xid : ℤ) (a b : Command) (now : ℤ) (s t : State) (o : Option ℤ) → VeilsCommand k a b → IsSealedState k s t → HasNoConnected (to_connection c (taken plain d xid a now s o).outputs)
+  taken_is_quiet : (c d : ℕ) (xid : ℤ) (a b : Command) (now : ℤ) (s t : State) (o : Option ℤ) → VeilsCommand k a b → IsSealedState k s t
+      → HasNoConnected (to_connection c (taken plain d xid a now s o).outputs)
   unfolding taken replied
   taken_is_quiet c d xid a b now s t None v h = nothing_quiet c
   taken_is_quiet c d xid a b now s t (Some session) v h =

@@ -30,7 +30,8 @@ same_path_of : (text : List ℕ) (path p : Path) → IsTextOf text path → IsTe
 same_path_of text path p h t = one_text path p h.legal t.legal (sym h.spelled ∙ t.spelled)
 
 -- the path of a create, and whether it is sequential
-created : (r : CreateRequest) (path : Path) (a : Bool) (p : Path) (n : List ℕ) (d : Option (List ℕ)) (q e : Bool) → IsNameOf r.flags r.path a path → IsCreate r p n d q e → (a ≡ q) × (path ≡ n ∷ p)
+created : (r : CreateRequest) (path : Path) (a : Bool) (p : Path) (n : List ℕ) (d : Option (List ℕ)) (q e : Bool) → IsNameOf r.flags r.path a path → IsCreate r p n d q e
+    → (a ≡ q) × (path ≡ n ∷ p)
 created r path a p n d q e h t =
     let same = same_sequential r.flags r.path path a q h t.numbered in
     (same, same_named r.flags r.path path n p q (subst (λ (b : Bool). IsNameOf r.flags r.path b path) same h) t.named)
@@ -196,6 +197,7 @@ refused_kept : (code : ℤ) (a : Command) → a ≡ refused code → asked_of a 
 unfolding asked_of
 refused_kept code a e = ap asked_of e
 
+-- and what its command asks is kept
 pub command_kept : (r : Request) (a : Command) → IsCommand r a → kept.Asks r (asked_of a)
 unfolding IsCommand kept.Asks
 command_kept r a (inl (code, h, e)) = inl (code, h, refused_kept code a e)

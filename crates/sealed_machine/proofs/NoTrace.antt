@@ -91,7 +91,8 @@ unfolding noticed event_to is_of
 noticed_quiet c d a p (tells kind) t e h = record { watches_are = h.watches_are; events_are = two_none c t.events _ h.events_are (first_none c _ [] e (nothing_to c)) }
 noticed_quiet c d a p watches t e h = record { watches_are = watching_none c (record { aspect = a; path = p; connection = d }) t.kept e h.watches_are; events_are = h.events_are }
 
-all_noticed_quiet : (c d : ℕ) (f : Option Node → Notice) (a : Aspect) (es : List Place) (ps : List Path) (t : Noticed) → (d == c) ≡ false → QuietNoticed c t → QuietNoticed c (all_noticed f a es d ps t)
+all_noticed_quiet : (c d : ℕ) (f : Option Node → Notice) (a : Aspect) (es : List Place) (ps : List Path) (t : Noticed) → (d == c) ≡ false → QuietNoticed c t
+    → QuietNoticed c (all_noticed f a es d ps t)
 unfolding all_noticed
 all_noticed_quiet c d f a es [] t e h = h
 all_noticed_quiet c d f a es (p ∷ ps) t e h = all_noticed_quiet c d f a es ps _ e (noticed_quiet c d a p (f (find es p)) t e h)
@@ -107,17 +108,21 @@ unfolding session_of without_session
 none_without c session [] h = refl
 none_without c session (x ∷ xs) h = go (is_other_session session x) (has_connection c x) refl h (none_without c session xs)
   where
-    go : (b h : Bool) → has_connection c x ≡ h → cond h (Some x.number) (session_of c xs) ≡ None → (session_of c xs ≡ None → session_of c (filter (is_other_session session) xs) ≡ None) → session_of c (cond b (x ∷ filter (is_other_session session) xs) (filter (is_other_session session) xs)) ≡ None
+    go : (b h : Bool) → has_connection c x ≡ h → cond h (Some x.number) (session_of c xs) ≡ None
+        → (session_of c xs ≡ None → session_of c (filter (is_other_session session) xs) ≡ None)
+        → session_of c (cond b (x ∷ filter (is_other_session session) xs) (filter (is_other_session session) xs)) ≡ None
     go b true e f ih = absurd cc
     go true false e f ih = ap (λ (t : Bool). cond t (Some x.number) (session_of c (filter (is_other_session session) xs))) e ∙ ih f
     go false false e f ih = ih f
 
-none_changed : (c : ℕ) (f : Session → Session) (xs : List Session) → ((x : Session) → has_connection c x ≡ false → has_connection c (f x) ≡ false) → session_of c xs ≡ None → session_of c (map f xs) ≡ None
+none_changed : (c : ℕ) (f : Session → Session) (xs : List Session) → ((x : Session) → has_connection c x ≡ false → has_connection c (f x) ≡ false)
+    → session_of c xs ≡ None → session_of c (map f xs) ≡ None
 unfolding session_of
 none_changed c f [] k h = refl
 none_changed c f (x ∷ xs) k h = go (has_connection c x) refl h (none_changed c f xs k)
   where
-    go : (b : Bool) → has_connection c x ≡ b → cond b (Some x.number) (session_of c xs) ≡ None → (session_of c xs ≡ None → session_of c (map f xs) ≡ None) → session_of c (f x ∷ map f xs) ≡ None
+    go : (b : Bool) → has_connection c x ≡ b → cond b (Some x.number) (session_of c xs) ≡ None → (session_of c xs ≡ None → session_of c (map f xs) ≡ None)
+        → session_of c (f x ∷ map f xs) ≡ None
     go true e j ih = absurd cc
     go false e j ih = ap (λ (t : Bool). cond t (Some (f x).number) (session_of c (map f xs))) (k x e) ∙ ih j
 
@@ -125,6 +130,7 @@ closed_none : (c : ℕ) (session : ℤ) (d : ℕ) (s : State) → NoTrace c s �
 unfolding closed
 closed_none c session d s n = record { watches_are = others_none c d s.watches n.watches_are; sessions_are = none_without c session s.sessions n.sessions_are }
 
+-- the answer to a command of another connection
 pub answer_quiet : (c d : ℕ) (naming : Naming) (at : Moment) (s : State) (command : Command) → (d == c) ≡ false → NoTrace c s → QuietAnswer c (answer naming at d s command)
 unfolding answer
 answer_quiet c d naming at s (refused code) e n = error_told c s code n
@@ -152,7 +158,8 @@ pub record QuietNext (c : ℕ) (n : Next) : Type 0 where
   pub outputs_are : to_connection c n.outputs ≡ []
 
 -- a session that is changed to one that this connection does not have
-none_set : (c : ℕ) (session : ℤ) (f : Session → Session) (xs : List Session) → ((x : Session) → has_connection c x ≡ false → has_connection c (f x) ≡ false) → session_of c xs ≡ None → session_of c (change_session session f xs) ≡ None
+none_set : (c : ℕ) (session : ℤ) (f : Session → Session) (xs : List Session) → ((x : Session) → has_connection c x ≡ false → has_connection c (f x) ≡ false)
+    → session_of c xs ≡ None → session_of c (change_session session f xs) ≡ None
 unfolding change_session changed_session
 none_set c session f xs k h = none_changed c (changed_session session f) xs (λ x e. go x (is_numbered session x) e) h
   where
@@ -187,7 +194,8 @@ hears_none c session now s n = record { watches_are = n.watches_are; sessions_ar
     heard_same : (c : ℕ) (now : ℤ) (x : Session) → has_connection c x ≡ false → has_connection c (heard_at now x) ≡ false
     heard_same c now x e = heard_keeps c now x ∙ e
 
-taken_quiet : (c d : ℕ) (naming : Naming) (xid : ℤ) (command : Command) (now : ℤ) (s : State) (o : Option ℤ) → (d == c) ≡ false → NoTrace c s → QuietNext c (taken naming d xid command now s o)
+taken_quiet : (c d : ℕ) (naming : Naming) (xid : ℤ) (command : Command) (now : ℤ) (s : State) (o : Option ℤ) → (d == c) ≡ false → NoTrace c s
+    → QuietNext c (taken naming d xid command now s o)
 unfolding taken replied
 taken_quiet c d naming xid command now s None e n = record { after = n; outputs_are = nothing_to c }
 taken_quiet c d naming xid command now s (Some session) e n =
@@ -199,11 +207,13 @@ unfolding session_of
 none_more c x [] e h = ap (λ (b : Bool). cond b (Some x.number) None) e
 none_more c x (y ∷ xs) e h = go (has_connection c y) refl h (none_more c x xs e)
   where
-    go : (b : Bool) → has_connection c y ≡ b → cond b (Some y.number) (session_of c xs) ≡ None → (session_of c xs ≡ None → session_of c (xs ++ x ∷ []) ≡ None) → cond b (Some y.number) (session_of c (xs ++ x ∷ [])) ≡ None
+    go : (b : Bool) → has_connection c y ≡ b → cond b (Some y.number) (session_of c xs) ≡ None → (session_of c xs ≡ None → session_of c (xs ++ x ∷ []) ≡ None)
+        → cond b (Some y.number) (session_of c (xs ++ x ∷ [])) ≡ None
     go true i j ih = absurd cc
     go false i j ih = ih j
 
-fresh_none : (c d : ℕ) (given : Given) (now : ℤ) → (d == c) ≡ false → has_connection c (record { number = given.session; timeout = given.timeout; password = given.password; heard = now; connection = Some d }) ≡ false
+fresh_none : (c d : ℕ) (given : Given) (now : ℤ) → (d == c) ≡ false
+    → has_connection c (record { number = given.session; timeout = given.timeout; password = given.password; heard = now; connection = Some d }) ≡ false
 unfolding has_connection
 fresh_none c d given now e = e
 
@@ -240,6 +250,7 @@ IsOthers c (asking d xid command now) = (d == c) ≡ false
 IsOthers c (loses d) = Unit {0}
 IsOthers c (expires session now) = Unit {0}
 
+-- an act of others
 pub step_quiet : (c : ℕ) (naming : Naming) (s : State) (act : Act) → IsOthers c act → NoTrace c s → QuietNext c (step naming s act)
 unfolding IsOthers step answer_connect expired
 step_quiet c naming s (connects d asked given now) e n = record { after = connected_none c d given now s e n; outputs_are = first_none c _ [] e (nothing_to c) }
@@ -249,6 +260,7 @@ step_quiet c naming s (expires session now) e n =
     let q = all_deleted_quiet c (next_zxid s) (ephemerals session s.nodes) s n.watches_are in
     record { after = ended_none c session _ (still c s _ _ n q); outputs_are = q.events_are }
 
+-- at the start no connection has a session or a watch
 pub start_none : (c : ℕ) → NoTrace c start
 unfolding start_at session_of
 start_none c = record { watches_are = refl; sessions_are = refl }

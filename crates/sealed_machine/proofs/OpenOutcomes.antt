@@ -58,6 +58,7 @@ error_shown : (code : ℤ) (told : Outcome) → Shows (outcomes.Error code) told
 unfolding Shows
 error_shown code told h = h
 
+-- an error is told as it is
 pub error_opens : (k : EntryKeys) (asked : Asked) (code : ℤ) → (IsRefused asked → ⊥) → Opens k asked (outcomes.Error code) (outcomes.Error code)
 error_opens k asked code f = told_as k asked (outcomes.Error code) (outcomes.Error code) (error_shown code) tt (failure_told k asked (outcomes.Error code) (outcomes.Error code) code f refl refl)
 
@@ -78,7 +79,8 @@ pub stat_opens : (k : EntryKeys) (p : Path) (a b : Stat) → IsPlainStat p b a �
 unfolding Shows IsPlain
 stat_opens k p a b h = told_as k (asks.StatOf p) (outcomes.Stat a) (outcomes.Stat b) (λ told s. s) tt (plain_told k (asks.StatOf p) (outcomes.Stat b) (outcomes.Stat a) (λ f. f) (λ f. f) h)
 
-pub content_opens : (k : EntryKeys) (p : Path) (d y : Option (List ℕ)) (a b : Stat) → IsPlainContent k.payloads p y b d a → Opens k (asks.Content p) (outcomes.Content d a) (outcomes.Content y b)
+pub content_opens : (k : EntryKeys) (p : Path) (d y : Option (List ℕ)) (a b : Stat) → IsPlainContent k.payloads p y b d a
+    → Opens k (asks.Content p) (outcomes.Content d a) (outcomes.Content y b)
 unfolding Shows IsPlain
 content_opens k p d y a b h = told_as k (asks.Content p) (outcomes.Content d a) (outcomes.Content y b) (λ told s. s) tt (plain_told k (asks.Content p) (outcomes.Content y b) (outcomes.Content d a) (λ f. f) (λ f. f) h)
 
@@ -92,12 +94,14 @@ unfolding Shows IsPlain
 sync_opens k p q s = told_as k (asks.SyncOf p) (outcomes.Path (text_of p)) (outcomes.Path (text_of q)) (λ told s. s) tt
     (plain_told k (asks.SyncOf p) (outcomes.Path (text_of q)) (outcomes.Path (text_of p)) (λ f. f) (λ f. f) (record { opened = (s.legal, ap text_of (sym s.is)); spelled = refl }))
 
-pub multi_opens : (k : EntryKeys) (cs : List Change) (a b : List OpResult) → IsPlain k (asks.Multi (map op_asked cs)) (outcomes.Multi b) (outcomes.Multi a) → Opens k (asks.Multi (map op_asked cs)) (outcomes.Multi a) (outcomes.Multi b)
+pub multi_opens : (k : EntryKeys) (cs : List Change) (a b : List OpResult) → IsPlain k (asks.Multi (map op_asked cs)) (outcomes.Multi b) (outcomes.Multi a)
+    → Opens k (asks.Multi (map op_asked cs)) (outcomes.Multi a) (outcomes.Multi b)
 unfolding Shows
 multi_opens k cs a b h = told_as k (asks.Multi (map op_asked cs)) (outcomes.Multi a) (outcomes.Multi b) (λ told s. s) tt
     (plain_told k (asks.Multi (map op_asked cs)) (outcomes.Multi b) (outcomes.Multi a) (λ f. f) (λ f. f) h)
 
-pub failed_plain : (k : EntryKeys) (cs : List Change) (codes : List ℤ) → length codes ≡ length cs → IsPlain k (asks.Multi (map op_asked cs)) (outcomes.Multi (map results.Error codes)) (outcomes.Multi (map results.Error codes))
+pub failed_plain : (k : EntryKeys) (cs : List Change) (codes : List ℤ) → length codes ≡ length cs
+    → IsPlain k (asks.Multi (map op_asked cs)) (outcomes.Multi (map results.Error codes)) (outcomes.Multi (map results.Error codes))
 unfolding IsPlain
 failed_plain k cs codes e = all_failed k.names cs codes e
 

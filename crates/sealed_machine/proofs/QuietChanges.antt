@@ -41,7 +41,8 @@ unfolding told connection_if_on is_of is_one
 told_none c a p [] h = refl
 told_none c a p (w ∷ ws) h = go (is_on a p w) (either_false _ _ h).0 (told_none c a p ws (either_false _ _ h).1)
   where
-    go : (b : Bool) → (w.connection == c) ≡ false → list_any (λ d. d == c) (filter_map (connection_if_on a p) ws) ≡ false → list_any (λ d. d == c) (cons_option (cond b (Some w.connection) None) (filter_map (connection_if_on a p) ws)) ≡ false
+    go : (b : Bool) → (w.connection == c) ≡ false → list_any (λ d. d == c) (filter_map (connection_if_on a p) ws) ≡ false
+        → list_any (λ d. d == c) (cons_option (cond b (Some w.connection) None) (filter_map (connection_if_on a p) ws)) ≡ false
     go true e ih = both_false _ _ e ih
     go false e ih = ih
 
@@ -77,7 +78,8 @@ unfolding after_lower
 after_none c w [] e h = both_false _ _ e refl
 after_none c w (v ∷ vs) e h = go (nat_le v.connection w.connection) (either_false (is_of c v) (list_any (is_of c) vs) h) (after_none c w vs e (either_false (is_of c v) (list_any (is_of c) vs) h).1)
   where
-    go : (b : Bool) → (is_of c v ≡ false) × (list_any (is_of c) vs ≡ false) → list_any (is_of c) (after_lower w vs) ≡ false → list_any (is_of c) (cond b (v ∷ after_lower w vs) (w ∷ v ∷ vs)) ≡ false
+    go : (b : Bool) → (is_of c v ≡ false) × (list_any (is_of c) vs ≡ false) → list_any (is_of c) (after_lower w vs) ≡ false
+        → list_any (is_of c) (cond b (v ∷ after_lower w vs) (w ∷ v ∷ vs)) ≡ false
     go true f ih = both_false (is_of c v) _ f.0 ih
     go false f ih = both_false (is_of c w) _ e (both_false (is_of c v) _ f.0 f.1)
 
@@ -115,7 +117,8 @@ done_quiet : (c : ℕ) (s : State) (e : Effect) → Quiet c s e.state e.events �
 unfolding QuietIf
 done_quiet c s e h = h
 
-created_quiet : (c : ℕ) (at : Moment) (p : Path) (n : List ℕ) (node : Node) (stat : Bool) (s : State) → list_any (is_of c) s.watches ≡ false → Quiet c s (created at p n node stat s).state (created at p n node stat s).events
+created_quiet : (c : ℕ) (at : Moment) (p : Path) (n : List ℕ) (node : Node) (stat : Bool) (s : State) → list_any (is_of c) s.watches ≡ false
+    → Quiet c s (created at p n node stat s).state (created at p n node stat s).events
 unfolding created left_by_creation creation_events
 created_quiet c at p n node stat s h = record {
   watches_are = left_none c on_children p _ (left_none c on_data (n ∷ p) s.watches h);
@@ -132,7 +135,8 @@ deleted_quiet c z p s h = record {
       (events_none c (pos 4) _ _ (told_none c on_children _ _ (left_none c on_children p s.watches h)));
 }
 
-updated_quiet : (c : ℕ) (at : Moment) (p : Path) (d : Option (List ℕ)) (node : Node) (s : State) → list_any (is_of c) s.watches ≡ false → Quiet c s (updated at p d node s).state (updated at p d node s).events
+updated_quiet : (c : ℕ) (at : Moment) (p : Path) (d : Option (List ℕ)) (node : Node) (s : State) → list_any (is_of c) s.watches ≡ false
+    → Quiet c s (updated at p d node s).state (updated at p d node s).events
 unfolding updated content_events
 updated_quiet c at p d node s h = record { watches_are = left_none c on_data p s.watches h; sessions_are = refl; events_are = events_none c (pos 3) p _ (told_none c on_data p s.watches h) }
 
@@ -157,7 +161,8 @@ unfolding after_effect QuietAllIf
 after_quiet c s e (failed codes) h j = tt
 after_quiet c s e (done more) h j = record { watches_are = j.watches_are; sessions_are = j.sessions_are ∙ h.sessions_are; events_are = two_none c e.events more.events h.events_are j.events_are }
 
-or_failed_quiet : (c : ℕ) (s : State) (t : Trial ℤ Effect) (rest : List Change) (next : Effect → Trial (List ℤ) Effects) → QuietIf c s t → ((e : Effect) → list_any (is_of c) e.state.watches ≡ false → QuietAllIf c e.state (next e)) → QuietAllIf c s (or_failed t rest next)
+or_failed_quiet : (c : ℕ) (s : State) (t : Trial ℤ Effect) (rest : List Change) (next : Effect → Trial (List ℤ) Effects) → QuietIf c s t
+    → ((e : Effect) → list_any (is_of c) e.state.watches ≡ false → QuietAllIf c e.state (next e)) → QuietAllIf c s (or_failed t rest next)
 unfolding or_failed QuietIf QuietAllIf
 or_failed_quiet c s (failed code) rest next h j = tt
 or_failed_quiet c s (done e) rest next h j = after_quiet c s e (next e) h (j e h.watches_are)

@@ -32,7 +32,8 @@ use Rattle.sealed_machine.proofs.SealedNotices.{set_watches_sealed}
 module _ (k : EntryKeys) (w : AreKeys k.names) where
   -- ---- reads
 
-  or_error_alike : (c : Command) (s t : State) (o u : Trial ℤ Answer) → IsSealedState k s t → (IsRefused (asked_of c) → ⊥) → Alike (SealedAnswer k c) o u → SealedAnswer k c (or_error s o) (or_error t u)
+  or_error_alike : (c : Command) (s t : State) (o u : Trial ℤ Answer) → IsSealedState k s t → (IsRefused (asked_of c) → ⊥) → Alike (SealedAnswer k c) o u
+      → SealedAnswer k c (or_error s o) (or_error t u)
   unfolding Alike or_error with_error
   or_error_alike c s t (failed a) (failed b) h f g = record { state = h; outcome = subst (λ (x : ℤ). Opens k (asked_of c) (outcomes.Error a) (outcomes.Error x)) g (error_opens k (asked_of c) a f); events = zips_none (OpensOutput k.names) }
   or_error_alike c s t (failed a) (done b) h f g = absurd g
@@ -180,12 +181,14 @@ module _ (k : EntryKeys) (w : AreKeys k.names) where
   refused_sealed naming other at c s t code q watch e h =
       subst (λ (b : Bool). SealedAnswer k (refused code) (answer naming at c s (refused code)) (answer other at c t (stat_at q b))) (sym e) (whatever c s t code q (find t.nodes q) h)
 
-  same_stat : (naming other : Naming) (at : Moment) (c : ℕ) (s t : State) (p q : Path) (a b x y : Bool) → x ≡ y → SealedAnswer k (get_children p a x) (answer naming at c s (get_children p a x)) (answer other at c t (get_children q b x))
+  same_stat : (naming other : Naming) (at : Moment) (c : ℕ) (s t : State) (p q : Path) (a b x y : Bool) → x ≡ y
+      → SealedAnswer k (get_children p a x) (answer naming at c s (get_children p a x)) (answer other at c t (get_children q b x))
       → SealedAnswer k (get_children p a x) (answer naming at c s (get_children p a x)) (answer other at c t (get_children q b y))
   same_stat naming other at c s t p q a b x y e h = subst (λ (z : Bool). SealedAnswer k (get_children p a x) (answer naming at c s (get_children p a x)) (answer other at c t (get_children q b z))) e h
 
   -- a command and its sealed form
-  pub answer_sealed : (naming : Naming) → IsNaming (IsSealedName k.names) naming → (at : Moment) (c : ℕ) (s t : State) (a b : Command) → VeilsCommand k a b → IsSealedState k s t → SealedAnswer k a (answer plain at c s a) (answer naming at c t b)
+  pub answer_sealed : (naming : Naming) → IsNaming (IsSealedName k.names) naming → (at : Moment) (c : ℕ) (s t : State) (a b : Command) → VeilsCommand k a b
+      → IsSealedState k s t → SealedAnswer k a (answer plain at c s a) (answer naming at c t b)
   unfolding VeilsCommand answer asked_of told_only
   answer_sealed naming names at c s t (refused code) (stat_at q watch) v h = refused_sealed plain naming at c s t code q watch v.1 h
   answer_sealed naming names at c s t (single x) (single y) v h = single_alike x s t _ _ h (perform_sealed k w naming names at s t x y v h)

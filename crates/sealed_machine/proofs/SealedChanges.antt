@@ -39,6 +39,7 @@ Alike R (failed c) (done b) = ⊥
 Alike R (done a) (failed d) = ⊥
 Alike R (done a) (done b) = R a b
 
+-- a thing that is needed is there on both sides, or on none
 pub need_alike : {A A' B B' : Type 0} (Q : A → A' → Type 0) (R : B → B' → Type 0) (a : Option A) (a' : Option A') (code : ℤ) (f : A → Trial ℤ B) (f' : A' → Trial ℤ B')
     → Both Q a a' → ((x : A) (y : A') → Q x y → Alike R (f x) (f' y)) → Alike R (need a code f) (need a' code f')
 unfolding need Alike Both
@@ -47,7 +48,9 @@ need_alike Q R None (Some y) code f f' h g = absurd h
 need_alike Q R (Some x) None code f f' h g = absurd h
 need_alike Q R (Some x) (Some y) code f f' h g = g x y h
 
-pub refuse_alike : {B B' : Type 0} (R : B → B' → Type 0) (b c : Bool) (code : ℤ) (r : Trial ℤ B) (r' : Trial ℤ B') → b ≡ c → (b ≡ false → Alike R r r') → Alike R (refuse b code r) (refuse c code r')
+-- a change is refused on both sides, or on none
+pub refuse_alike : {B B' : Type 0} (R : B → B' → Type 0) (b c : Bool) (code : ℤ) (r : Trial ℤ B) (r' : Trial ℤ B') → b ≡ c → (b ≡ false → Alike R r r')
+    → Alike R (refuse b code r) (refuse c code r')
 unfolding refuse Alike
 refuse_alike R true true code r r' e h = refl
 refuse_alike R true false code r r' e h = absurd cc
@@ -61,6 +64,7 @@ done_alike E R a b h = h
 -- ---- events
 
 module _ (k : EntryKeys) (w : AreKeys k.names) where
+  -- an event on both sides
   pub one_event : (kind : ℤ) (p q : Path) (c d : ℕ) → IsNodeKind kind → Seals k.names p q → c ≡ d → OpensOutput k.names (event_to kind p c) (event_to kind q d)
   unfolding event_to OpensEvent
   one_event kind p q c d is s e = record {
@@ -73,6 +77,7 @@ module _ (k : EntryKeys) (w : AreKeys k.names) where
   same_events kind p q is s [] = tt
   same_events kind p q is s (c ∷ cs) = (one_event kind p q c c is s refl, same_events kind p q is s cs)
 
+  -- an event to each of some connections
   pub events_zip : (kind : ℤ) (p q : Path) (cs ds : List ℕ) → IsNodeKind kind → Seals k.names p q → cs ≡ ds → Zips (OpensOutput k.names) (events_to kind p cs) (events_to kind q ds)
   events_zip kind p q cs ds is s e = subst (λ (l : List ℕ). Zips (OpensOutput k.names) (events_to kind p cs) (events_to kind q l)) e (same_events kind p q is s cs)
 
@@ -116,6 +121,7 @@ module _ (k : EntryKeys) (w : AreKeys k.names) where
     stat_of_new n stem p _ _ (stats k w (n ∷ p) (m ∷ q) b c sc x es fs z),
   )
 
+  -- a node is made
   pub created_sealed : (at : Moment) (p q : Path) (n m stem : List ℕ) (b c : Node) (s t : State) (d : Option (List ℕ)) (sequential ephemeral stat : Bool)
       → Seals k.names p q → Seals k.names (n ∷ p) (m ∷ q) → IsLast sequential stem → IsGiven sequential stem n → SealedNode k (n ∷ p) b c → is_there s.nodes (n ∷ p) ≡ false → IsSealedState k s t
       → SealedEffect k (create p stem d sequential ephemeral stat) (created at p n b stat s) (created at q m c stat t)
@@ -135,6 +141,7 @@ module _ (k : EntryKeys) (w : AreKeys k.names) where
         (events_zip (pos 4) p q _ _ (omega (arith, ints), omega (arith, ints)) sp (told_agree k w on_children p q sp s.watches t.watches h.watches));
   }
 
+  -- a node is removed
   pub deleted_sealed : (z v : ℤ) (p q : Path) (s t : State) → Seals k.names p q → IsSealedState k s t → SealedEffect k (delete p v) (deleted z p s) (deleted z q t)
   unfolding deleted left_by_deletion deletion_events end_events IsPlainResult op_asked
   deleted_sealed z v p q s t sp h =
@@ -158,7 +165,9 @@ module _ (k : EntryKeys) (w : AreKeys k.names) where
             (events_zip (pos 4) (above p) (above q) _ _ (omega (arith, ints), omega (arith, ints)) up c);
       }
 
-  pub updated_sealed : (at : Moment) (v : ℤ) (p q : Path) (d y : Option (List ℕ)) (b c : Node) (s t : State) → Seals k.names p q → Holds k.payloads p d y → SealedNode k p b c → IsSealedState k s t
+  -- a content is written
+  pub updated_sealed : (at : Moment) (v : ℤ) (p q : Path) (d y : Option (List ℕ)) (b c : Node) (s t : State) → Seals k.names p q → Holds k.payloads p d y
+      → SealedNode k p b c → IsSealedState k s t
       → SealedEffect k (set_content p d v) (updated at p d b s) (updated at q y c t)
   unfolding updated content_events IsPlainResult op_asked
   updated_sealed at v p q d y b c s t sp hd x h = record {
@@ -187,7 +196,8 @@ module _ (k : EntryKeys) (w : AreKeys k.names) where
   unfoldable NameFor : Path → List ℕ → Bool → List ℕ → List ℕ → Type 0
   NameFor p n sequential name other = SealsName k.names p name other × IsGiven sequential n name
 
-  names_for : (naming : Naming) → IsNaming (IsSealedName k.names) naming → (p q : Path) (n m : List ℕ) (d y : Option (List ℕ)) (sequential : Bool) (b c : Node) → VeilsCreate k p n d sequential q m y → SealedNode k p b c
+  names_for : (naming : Naming) → IsNaming (IsSealedName k.names) naming → (p q : Path) (n m : List ℕ) (d y : Option (List ℕ)) (sequential : Bool) (b c : Node)
+      → VeilsCreate k p n d sequential q m y → SealedNode k p b c
       → Both (NameFor p n sequential) (name_for plain p n sequential b) (name_for naming q m sequential c)
   unfolding name_for NameFor IsGiven IsLast plain
   names_for naming names p q n m d y false b c r x = both_some (NameFor p n false) n m (record { legal = r.last; is = r.name }, refl)
@@ -213,7 +223,9 @@ module _ (k : EntryKeys) (w : AreKeys k.names) where
       refuse_alike R _ _ node_exists _ _ (there k w (name ∷ p) (other ∷ q) c s.nodes t.nodes h.nodes)
       (λ free. done_alike ℤ R _ _ (created_sealed at p q name other n _ _ s t d sequential ephemeral stat r.path c r.last x.1 (fresh at (name ∷ p) d y ephemeral (r.content name x.1)) free h))
 
-  create_sealed : (naming : Naming) → IsNaming (IsSealedName k.names) naming → (at : Moment) (s t : State) (p q : Path) (n m : List ℕ) (d y : Option (List ℕ)) (sequential ephemeral stat : Bool) → VeilsCreate k p n d sequential q m y → IsSealedState k s t
+  create_sealed : (naming : Naming) → IsNaming (IsSealedName k.names) naming
+      → (at : Moment) (s t : State) (p q : Path) (n m : List ℕ) (d y : Option (List ℕ)) (sequential ephemeral stat : Bool) → VeilsCreate k p n d sequential q m y
+      → IsSealedState k s t
       → Alike (SealedEffect k (create p n d sequential ephemeral stat)) (perform plain at s (create p n d sequential ephemeral stat)) (perform naming at t (create q m y sequential ephemeral stat))
   unfolding perform
   create_sealed naming names at s t p q n m d y sequential ephemeral stat r h =
@@ -257,7 +269,8 @@ module _ (k : EntryKeys) (w : AreKeys k.names) where
         events = zips_none (OpensOutput k.names);
       }))
 
-  same_mode : (naming : Naming) (at : Moment) (t : State) (q : Path) (m : List ℕ) (y : Option (List ℕ)) (b c e f u v : Bool) (R : Effect → Effect → Type 0) (o : Trial ℤ Effect) → b ≡ c → e ≡ f → u ≡ v
+  same_mode : (naming : Naming) (at : Moment) (t : State) (q : Path) (m : List ℕ) (y : Option (List ℕ)) (b c e f u v : Bool) (R : Effect → Effect → Type 0) (o : Trial ℤ Effect)
+      → b ≡ c → e ≡ f → u ≡ v
       → Alike R o (perform naming at t (create q m y b e u)) → Alike R o (perform naming at t (create q m y c f v))
   same_mode naming at t q m y b c e f u v R o g h j x = subst (λ (z : Trial ℤ Effect). Alike R o z) (λ i. perform naming at t (create q m y (g i) (h i) (j i))) x
 

@@ -67,6 +67,7 @@ module _ (k : EntryKeys) (w : AreKeys k.names) where
     events = tt;
   }
 
+  -- the changes of a multi, one after another, or the codes of those that were not done
   pub perform_all_sealed : (naming : Naming) → IsNaming (IsSealedName k.names) naming → (at : Moment) (cs ds : List Change) (s t : State) → Zips (VeilsChange k) cs ds → IsSealedState k s t
       → AlikeAll k cs (perform_all plain at s cs) (perform_all naming at t ds)
   unfolding perform_all Zips
@@ -76,6 +77,7 @@ module _ (k : EntryKeys) (w : AreKeys k.names) where
   perform_all_sealed naming names at (c ∷ cs) (d ∷ ds) s t z h =
       or_failed_alike c cs ds _ _ _ _ z.1 (perform_sealed k w naming names at s t c d z.0 h) (λ e f x. perform_all_sealed naming names at cs ds e.state f.state z.1 x.state)
 
+  -- nodes that go, one after another
   pub all_deleted_sealed : (z : ℤ) (ps qs : List Path) (s t : State) → Zips (Seals k.names) ps qs → IsSealedState k s t → SealedEffects k [] (all_deleted z ps s) (all_deleted z qs t)
   unfolding all_deleted no_effects Zips ArePlainResults
   all_deleted_sealed z [] [] s t x h = record { state = record { nodes = h.nodes; apart = h.apart; sessions = h.sessions; watches = h.watches; greatest = h.greatest; last = refl }; results = tt; events = tt }
@@ -88,6 +90,7 @@ module _ (k : EntryKeys) (w : AreKeys k.names) where
 
 -- ---- the results of a multi
 
+-- a multi that failed has the same codes on both sides
 pub failed_results : (k : Keys) (cs : List Change) (codes : List ℤ) → length codes ≡ length cs → ArePlainResults k true (map op_asked cs) (map results.Error codes) (map results.Error codes)
 unfolding ArePlainResults IsPlainResult
 failed_results k [] [] e = tt
@@ -95,7 +98,9 @@ failed_results k [] (c ∷ codes) e = absurd (omega (arith, e))
 failed_results k (d ∷ cs) [] e = absurd (omega (arith, e))
 failed_results k (d ∷ cs) (c ∷ codes) e = (refl, failed_results k cs codes (omega (arith, e)))
 
-pub all_failed : (k : Keys) (cs : List Change) (codes : List ℤ) → length codes ≡ length cs → ArePlainResults k (is_failed (map results.Error codes)) (map op_asked cs) (map results.Error codes) (map results.Error codes)
+-- and that is told as it is
+pub all_failed : (k : Keys) (cs : List Change) (codes : List ℤ) → length codes ≡ length cs
+    → ArePlainResults k (is_failed (map results.Error codes)) (map op_asked cs) (map results.Error codes) (map results.Error codes)
 unfolding ArePlainResults
 all_failed k [] [] e = tt
 all_failed k [] (c ∷ codes) e = absurd (omega (arith, e))
@@ -110,6 +115,7 @@ no_error k op_asks.Delete code a h = h
 no_error k (op_asks.SetContent path) code a h = h
 no_error k op_asks.Check code a h = h
 
+-- a multi that was done has no error among its results
 pub all_done : (k : Keys) (ops : List AskedOp) (stored told : List OpResult) → ArePlainResults k false ops stored told → ArePlainResults k (is_failed stored) ops stored told
 unfolding ArePlainResults
 all_done k [] [] [] h = h

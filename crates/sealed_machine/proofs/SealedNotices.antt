@@ -71,12 +71,14 @@ module _ (k : EntryKeys) (w : AreKeys k.names) where
       go true = (omega (arith, ints), omega (arith, ints))
       go false = tt
 
-  noticed_sealed : (r : Aspect) (p q : Path) (c : ℕ) (a : Notice) (x y : Noticed) → IsTold a → Seals k.names p q → SealedNoticed k.names x y → SealedNoticed k.names (noticed r p c a x) (noticed r q c a y)
+  noticed_sealed : (r : Aspect) (p q : Path) (c : ℕ) (a : Notice) (x y : Noticed) → IsTold a → Seals k.names p q → SealedNoticed k.names x y
+      → SealedNoticed k.names (noticed r p c a x) (noticed r q c a y)
   unfolding noticed IsTold
   noticed_sealed r p q c (tells kind) x y is s h = record { watches = h.watches; events = zips_append (OpensOutput k.names) _ _ _ _ h.events (zips_one (OpensOutput k.names) _ _ (one_event k w kind p q c c is s refl)) }
   noticed_sealed r p q c watches x y is s h = record { watches = watching_zips k w _ _ (record { aspect = refl; path = s; connection = refl }) _ _ h.watches; events = h.events }
 
-  all_noticed_sealed : (f : Option Node → Notice) (r : Aspect) (es fs : List Place) (c : ℕ) (ps qs : List Path) (x y : Noticed) → ((o : Option Node) → IsTold (f o)) → ((p : Path) (o u : Option Node) → Both (SealedNode k p) o u → f o ≡ f u)
+  all_noticed_sealed : (f : Option Node → Notice) (r : Aspect) (es fs : List Place) (c : ℕ) (ps qs : List Path) (x y : Noticed) → ((o : Option Node) → IsTold (f o))
+      → ((p : Path) (o u : Option Node) → Both (SealedNode k p) o u → f o ≡ f u)
       → Zips (SealedPlace k) es fs → Zips (Seals k.names) ps qs → SealedNoticed k.names x y → SealedNoticed k.names (all_noticed f r es c ps x) (all_noticed f r fs c qs y)
   unfolding all_noticed Zips
   all_noticed_sealed f r es fs c [] [] x y is a z s h = h
@@ -87,7 +89,8 @@ module _ (k : EntryKeys) (w : AreKeys k.names) where
       all_noticed_sealed f r es fs c ps qs _ _ is a z s.1
       (subst (λ (n : Notice). SealedNoticed k.names (noticed r p c (f (find es p)) x) (noticed r q c n y)) e (noticed_sealed r p q c (f (find es p)) x y (is (find es p)) s.0 h))
 
-  pub set_watches_sealed : (naming other : Naming) (at : Moment) (c : ℕ) (s t : State) (seen then_ : ℤ) (a b d a' b' d' : List Path) → seen ≡ then_ → Zips (Seals k.names) a a' → Zips (Seals k.names) b b' → Zips (Seals k.names) d d' → IsSealedState k s t
+  pub set_watches_sealed : (naming other : Naming) (at : Moment) (c : ℕ) (s t : State) (seen then_ : ℤ) (a b d a' b' d' : List Path) → seen ≡ then_
+      → Zips (Seals k.names) a a' → Zips (Seals k.names) b b' → Zips (Seals k.names) d d' → IsSealedState k s t
       → SealedAnswer k (set_watches seen a b d) (answer naming at c s (set_watches seen a b d)) (answer other at c t (set_watches then_ a' b' d'))
   unfolding answer with_noticed asked_of
   set_watches_sealed naming other at c s t seen then_ a b d a' b' d' e za zb zd h =

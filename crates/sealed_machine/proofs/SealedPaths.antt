@@ -16,17 +16,21 @@ seals_agree k w p p' q q' a b =
     (λ t. same_path-from q q' (a.is ∙ ap (sealed k) (same_path-true p p' t) ∙ sym b.is))
     (λ t. same_path-from p p' (one_path k w p p' a.legal b.legal (sym a.is ∙ same_path-true q q' t ∙ b.is)))
 
+-- the parent of a sealed path is the sealed parent
 pub above_seals : (k : Keys) (p q : Path) → Seals k p q → Seals k (above p) (above q)
 unfolding above
 above_seals k [] q h = record { legal = h.legal; is = ap above (h.is ∙ sealed_root k) ∙ sym (sealed_root k) }
 above_seals k (n ∷ p) q h = record { legal = All-tail IsComponent n p h.legal; is = ap above (h.is ∙ sealed_child k p n) }
 
+-- a child of a sealed path
 pub child_seals : (k : Keys) (p q : Path) (n m : List ℕ) → Seals k p q → SealsName k p n m → Seals k (n ∷ p) (m ∷ q)
 child_seals k p q n m s h = record { legal = All-cons IsComponent n p h.legal s.legal; is = (λ i. h.is i ∷ s.is i) ∙ sym (sealed_child k p n) }
 
+-- the root is sealed to itself
 pub root_seals : (k : Keys) → Seals k [] []
 root_seals k = record { legal = All-nil IsComponent; is = sym (sealed_root k) }
 
+-- a path stands under another where its sealed form does, and its last name is sealed there
 pub under : (k : Keys) → AreKeys k → (p q r o : Path) → Seals k p q → Seals k r o → Both (SealsName k p) (name_under p r) (name_under q o)
 unfolding name_under
 under k w p q [] o s h = subst (λ (x : Path). Both (SealsName k p) None (name_under q x)) (sym (h.is ∙ sealed_root k)) (both_none (SealsName k p))

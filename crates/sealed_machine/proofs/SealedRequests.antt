@@ -37,7 +37,8 @@ record SealedOp (k : EntryKeys) (v : Op) (c : Change) : Type 0 where
   veils : VeilsChange k c change
   allowed : RefusesOp v None
 
-sealed_op : (k : EntryKeys) → AreKeys k.names → (ivs : List (List ℕ)) (r v : Op) (c : Change) → All (IsIvOf k.payloads) ivs → RefusesOp r None → VeilsOp k ivs r v → IsChange r c → SealedOp k v c
+sealed_op : (k : EntryKeys) → AreKeys k.names → (ivs : List (List ℕ)) (r v : Op) (c : Change) → All (IsIvOf k.payloads) ivs → RefusesOp r None → VeilsOp k ivs r v
+    → IsChange r c → SealedOp k v c
 unfolding VeilsOp IsChange VeilsChange
 sealed_op k w ivs (ops.Create r) (ops.Create v) (create p n d q e stat) good ok t h =
     let s = sealed_create k w ivs r v p n d q e good t h.0 in
@@ -83,7 +84,8 @@ all_back : (P : List ℕ → Type 0) (xs ys : List (List ℕ)) → All P (xs ++ 
 all_back P [] ys h = h
 all_back P (x ∷ xs) ys h = all_back P xs ys (All-tail P x (xs ++ ys) h)
 
-sealed_ops : (k : EntryKeys) → AreKeys k.names → (ivs : List (List ℕ)) (rs vs : List Op) (cs : List Change) → All (IsIvOf k.payloads) ivs → All (λ op. RefusesOp op None) rs → VeilsOps k ivs rs vs → AllZip IsChange rs cs → SealedOps k vs cs
+sealed_ops : (k : EntryKeys) → AreKeys k.names → (ivs : List (List ℕ)) (rs vs : List Op) (cs : List Change) → All (IsIvOf k.payloads) ivs
+    → All (λ op. RefusesOp op None) rs → VeilsOps k ivs rs vs → AllZip IsChange rs cs → SealedOps k vs cs
 unfolding VeilsOps Zips RefusesOps
 sealed_ops k w ivs [] [] [] good ok t h = record { changes = []; asked = tt; veils = tt; allowed = refl }
 sealed_ops k w ivs [] [] (c ∷ cs) good ok t h = absurd h
@@ -119,7 +121,8 @@ are_paths_sealed k w None (Some vs) s = absurd s
 are_paths_sealed k w (Some texts) None s = absurd s
 are_paths_sealed k w (Some texts) (Some vs) s = list_paths k w texts vs s
 
-creates : (k : EntryKeys) → AreKeys k.names → (ivs : List (List ℕ)) (r v : CreateRequest) (a : Command) → All (IsIvOf k.payloads) ivs → RefusesCreate r None → TextCreate k ivs r v → Asks (requests.Create r) a → SealedRequest k (requests.Create v) a
+creates : (k : EntryKeys) → AreKeys k.names → (ivs : List (List ℕ)) (r v : CreateRequest) (a : Command) → All (IsIvOf k.payloads) ivs → RefusesCreate r None
+    → TextCreate k ivs r v → Asks (requests.Create r) a → SealedRequest k (requests.Create v) a
 unfolding Asks VeilsCommand VeilsChange Refuses
 creates k w ivs r v (single (create p n d q e stat)) good ok t h =
     let s = sealed_create k w ivs r v p n d q e good t h.0 in
@@ -127,7 +130,8 @@ creates k w ivs r v (single (create p n d q e stat)) good ok t h =
 creates k w ivs r v (single c) good ok t h = absurd h
 creates k w ivs r v a good ok t h = absurd h
 
-creates_with_stat : (k : EntryKeys) → AreKeys k.names → (ivs : List (List ℕ)) (r v : CreateRequest) (a : Command) → All (IsIvOf k.payloads) ivs → RefusesCreate r None → TextCreate k ivs r v → Asks (requests.Create2 r) a → SealedRequest k (requests.Create2 v) a
+creates_with_stat : (k : EntryKeys) → AreKeys k.names → (ivs : List (List ℕ)) (r v : CreateRequest) (a : Command) → All (IsIvOf k.payloads) ivs → RefusesCreate r None
+    → TextCreate k ivs r v → Asks (requests.Create2 r) a → SealedRequest k (requests.Create2 v) a
 unfolding Asks VeilsCommand VeilsChange Refuses
 creates_with_stat k w ivs r v (single (create p n d q e stat)) good ok t h =
     let s = sealed_create k w ivs r v p n d q e good t h.0 in
@@ -135,14 +139,16 @@ creates_with_stat k w ivs r v (single (create p n d q e stat)) good ok t h =
 creates_with_stat k w ivs r v (single c) good ok t h = absurd h
 creates_with_stat k w ivs r v a good ok t h = absurd h
 
-multis : (k : EntryKeys) → AreKeys k.names → (ivs : List (List ℕ)) (rs vs : List Op) (a : Command) → All (IsIvOf k.payloads) ivs → RefusesOps rs None → VeilsOps k ivs rs vs → Asks (requests.Multi rs) a → SealedRequest k (requests.Multi vs) a
+multis : (k : EntryKeys) → AreKeys k.names → (ivs : List (List ℕ)) (rs vs : List Op) (a : Command) → All (IsIvOf k.payloads) ivs → RefusesOps rs None
+    → VeilsOps k ivs rs vs → Asks (requests.Multi rs) a → SealedRequest k (requests.Multi vs) a
 unfolding Asks VeilsCommand Refuses
 multis k w ivs rs vs (multi cs) good ok t h =
     let s = sealed_ops k w ivs rs vs cs good (ops_allowed rs ok) t h in
     record { command = multi s.changes; asked = s.asked; veils = s.veils; allowed = s.allowed }
 multis k w ivs rs vs a good ok t h = absurd h
 
-sealed_request : (k : EntryKeys) → AreKeys k.names → (ivs : List (List ℕ)) (r v : Request) (a : Command) → All (IsIvOf k.payloads) ivs → Refuses r None → Veils k ivs r v → Asks r a → SealedRequest k v a
+sealed_request : (k : EntryKeys) → AreKeys k.names → (ivs : List (List ℕ)) (r v : Request) (a : Command) → All (IsIvOf k.payloads) ivs → Refuses r None → Veils k ivs r v
+    → Asks r a → SealedRequest k v a
 unfolding Veils VeilsCommand VeilsChange Asks Refuses
 sealed_request k w ivs (requests.Create r) (requests.Create v) a good ok t h = creates k w ivs r v a good ok t h
 sealed_request k w ivs (requests.Create2 r) (requests.Create2 v) a good ok t h = creates_with_stat k w ivs r v a good ok t h
@@ -234,13 +240,15 @@ inr_command : (v : Request) (b : Command) → Refuses v None → Asks v b → Is
 unfolding IsCommand
 inr_command v b ok h = inr (ok, h)
 
+-- a request that no rule refuses asks for its command
 pub asks_of : (r : Request) (a : Command) → Refuses r None → IsCommand r a → Asks r a
 unfolding IsCommand
 asks_of r a ok (inl (code, refuses, e)) = absurd (none-some code (one_outcome r None (Some code) ok refuses))
 asks_of r a ok (inr h) = h.1
 
 -- the veiled form of a request asks for the sealed form of its command
-pub veiled_command : (k : EntryKeys) → AreKeys k.names → (ivs : List (List ℕ)) (r v : Request) (a b : Command) → All (IsIvOf k.payloads) ivs → Veil k ivs r v → IsCommand r a → IsCommand v b → VeilsCommand k a b
+pub veiled_command : (k : EntryKeys) → AreKeys k.names → (ivs : List (List ℕ)) (r v : Request) (a b : Command) → All (IsIvOf k.payloads) ivs → Veil k ivs r v
+    → IsCommand r a → IsCommand v b → VeilsCommand k a b
 unfolding Veil
 veiled_command k w ivs r v a b good (inl (code, refuses, e, none)) ca cb =
     refused_veils k code a b (is_refused r code a refuses ca) (stand_in_asks b (subst (λ (x : Request). IsCommand x b) e cb))

@@ -41,6 +41,7 @@ module _ (k : EntryKeys) (w : AreKeys k.names) where
   an_event a (messages.Event x) n h = absurd h
   an_event a m n h = absurd h
 
+  -- events answer nothing
   pub all_events : (a : Asked) (os us : List Output) → Zips (OpensOutput k.names) os us → Zips (Answers k a) os us
   unfolding Zips
   all_events a [] [] h = tt
@@ -48,11 +49,13 @@ module _ (k : EntryKeys) (w : AreKeys k.names) where
   all_events a (o ∷ os) [] h = absurd h
   all_events a (o ∷ os) (u ∷ us) h = (record { connection = h.0.connection; message = an_event a o.message u.message h.0.event }, all_events a os us h.1)
 
+  -- whatever a store tells of its reply, the plain reply is admitted in its place
   pub reply_opens : (c : Command) (xid : ℤ) (a b : Answer) → SealedAnswer k c a b → (told : Reply) → ShowsReply (record { xid = xid; zxid = b.state.last; outcome = b.outcome }) told
       → Admits k (asked_of c) told (record { xid = xid; zxid = a.state.last; outcome = a.outcome }) None
   reply_opens c xid a b h told s = let o = h.outcome told.outcome s.outcome in
       record { shaped = o.shaped; same_xid = sym s.same_xid; same_zxid = h.state.last ∙ sym s.same_zxid; outcome = o.admitted }
 
+  -- a reply behind the events of its command
   pub replied_sealed : (command : Command) (c : ℕ) (xid : ℤ) (a b : Answer) → SealedAnswer k command a b → SealedNext k (asked_of command) (replied c xid a) (replied c xid b)
   unfolding replied OpensMessage
   replied_sealed command c xid a b h = record {
@@ -61,22 +64,27 @@ module _ (k : EntryKeys) (w : AreKeys k.names) where
         (zips_one (Answers k (asked_of command)) _ _ (record { connection = refl; message = reply_opens command xid a b h }));
   }
 
+  -- a session is heard
   pub hears_sealed : (session now : ℤ) (s t : State) → IsSealedState k s t → IsSealedState k (hears session now s) (hears session now t)
   unfolding hears
   hears_sealed session now s t h = record { nodes = h.nodes; apart = h.apart; sessions = ap (change_session session (heard_at now)) h.sessions; watches = h.watches; greatest = h.greatest; last = h.last }
 
+  -- the next zxid is the same
   pub next_sealed : (s t : State) → IsSealedState k s t → next_zxid s ≡ next_zxid t
   unfolding next_zxid
   next_sealed s t h = ap (λ (l : ℤ). l +ℤ pos 1) h.last
 
   module _ (naming : Naming) (names : IsNaming (IsSealedName k.names) naming) where
+    -- what a command does in a session
     pub answered : (c : ℕ) (a b : Command) (now session : ℤ) (s t : State) → VeilsCommand k a b → IsSealedState k s t
         → SealedAnswer k a (answer plain (record { zxid = next_zxid s; time = now; session = session }) c (hears session now s) a) (answer naming (record { zxid = next_zxid t; time = now; session = session }) c (hears session now t) b)
     answered c a b now session s t v h =
         subst (λ (z : ℤ). SealedAnswer k a (answer plain (record { zxid = next_zxid s; time = now; session = session }) c (hears session now s) a) (answer naming (record { zxid = z; time = now; session = session }) c (hears session now t) b)) (next_sealed s t h)
         (answer_sealed k w naming names (record { zxid = next_zxid s; time = now; session = session }) c _ _ a b v (hears_sealed session now s t h))
 
-    pub taken_sealed : (c : ℕ) (xid : ℤ) (a b : Command) (now : ℤ) (s t : State) (o : Option ℤ) → VeilsCommand k a b → IsSealedState k s t → SealedNext k (asked_of a) (taken plain c xid a now s o) (taken naming c xid b now t o)
+    -- a request is answered in a session, and else dropped
+    pub taken_sealed : (c : ℕ) (xid : ℤ) (a b : Command) (now : ℤ) (s t : State) (o : Option ℤ) → VeilsCommand k a b → IsSealedState k s t
+        → SealedNext k (asked_of a) (taken plain c xid a now s o) (taken naming c xid b now t o)
     unfolding taken
     taken_sealed c xid a b now s t None v h = record { state = h; outputs = zips_none (Answers k (asked_of a)) }
     taken_sealed c xid a b now s t (Some session) v h = replied_sealed a c xid _ _ (answered c a b now session s t v h)
@@ -88,7 +96,8 @@ module _ (k : EntryKeys) (w : AreKeys k.names) where
         let goal : taken naming c x b now t (session_of c s.sessions) ≡ taken naming d y b then_ t (session_of d t.sessions) = (λ i. taken naming (e i) (f i) b (g i) t (session_of (e i) (h.sessions i))) in
         subst (λ (n : Next). SealedNext k (asked_of a) (taken plain c x a now s (session_of c s.sessions)) n) goal (taken_sealed c x a b now s t (session_of c s.sessions) v h)
 
-    connected_at_sealed : (o : Option Session) (given : Given) (now : ℤ) (c : ℕ) (s t : State) → IsSealedState k s t → IsSealedState k (connected_at o given now c s) (connected_at o given now c t)
+    connected_at_sealed : (o : Option Session) (given : Given) (now : ℤ) (c : ℕ) (s t : State) → IsSealedState k s t
+        → IsSealedState k (connected_at o given now c s) (connected_at o given now c t)
     unfolding connected_at
     connected_at_sealed None given now c s t h = record { nodes = h.nodes; apart = h.apart; sessions = ap (with_session given now c) h.sessions; watches = h.watches; greatest = refl; last = next_sealed s t h }
     connected_at_sealed (Some x) given now c s t h = record { nodes = h.nodes; apart = h.apart; sessions = ap (with_moved given now c) h.sessions; watches = h.watches; greatest = h.greatest; last = next_sealed s t h }
@@ -129,7 +138,8 @@ module _ (k : EntryKeys) (w : AreKeys k.names) where
     unfolding lost
     lost_sealed c s t h = record { nodes = h.nodes; apart = h.apart; sessions = ap (λ (xs : List Session). map (without_connection c) xs) h.sessions; watches = others_zip k w c s.watches t.watches h.watches; greatest = h.greatest; last = h.last }
 
-    connects_sealed : (a : Asked) (c : ℕ) (asked : ConnectRequest) (given : Given) (now : ℤ) (s t : State) → IsSealedState k s t → SealedNext k a (step plain s (connects c asked given now)) (step naming t (connects c asked given now))
+    connects_sealed : (a : Asked) (c : ℕ) (asked : ConnectRequest) (given : Given) (now : ℤ) (s t : State) → IsSealedState k s t
+        → SealedNext k a (step plain s (connects c asked given now)) (step naming t (connects c asked given now))
     unfolding step answer_connect OpensMessage
     connects_sealed a c asked given now s t h = record { state = connected_sealed given now c s t h; outputs = zips_one (Answers k a) _ _ (record { connection = refl; message = refl }) }
 
@@ -161,6 +171,7 @@ module _ (k : EntryKeys) (w : AreKeys k.names) where
     run_sealed (f ∷ fs) [] s t v h = absurd v
     run_sealed (f ∷ fs) (g ∷ gs) s t v h = let n = step_sealed s t f g v.0 h in (n, run_sealed fs gs _ _ v.1 n.state)
 
+-- the start is sealed to itself
 pub start_sealed : (k : EntryKeys) → IsSealedState k start start
 unfolding start_at Zips Holds IsApart is_there
 start_sealed k = record { nodes = (record { path = root_seals k.names; node = record { content = (refl, refl); numbers = refl } }, tt); apart = (refl, tt); sessions = refl; watches = tt; greatest = refl; last = refl }

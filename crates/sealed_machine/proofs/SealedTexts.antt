@@ -34,6 +34,7 @@ pub record IsSealedText (k : Keys) (p : Path) (v : List ℕ) : Type 0 where
   pub seals : Seals k p (sealed k p)
   pub asked : IsTextOf v (sealed k p)
 
+-- the text of a path, and its sealed form
 pub text_sealed : (k : Keys) → AreKeys k → (text v : List ℕ) (p : Path) → IsTextOf text p → SealsText k text v → IsSealedText k p v
 text_sealed k w text v p t s =
     let same : s.path ≡ p = one_text s.path p s.named.legal t.legal (sym s.named.spelled ∙ t.spelled) in
@@ -42,7 +43,8 @@ text_sealed k w text v p t s =
       asked = record { legal = sealed_legal k p w t.legal; spelled = s.is_sealed ∙ ap (λ (x : Path). text_of (sealed k x)) same };
     }
 
-texts_sealed : (k : Keys) → AreKeys k → (texts vs : List (List ℕ)) (ps : List Path) → AllZip IsTextOf texts ps → SealsTexts k texts vs → (qs : List Path) × AllZip IsTextOf vs qs × Zips (Seals k) ps qs
+texts_sealed : (k : Keys) → AreKeys k → (texts vs : List (List ℕ)) (ps : List Path) → AllZip IsTextOf texts ps → SealsTexts k texts vs
+    → (qs : List Path) × AllZip IsTextOf vs qs × Zips (Seals k) ps qs
 unfolding Zips
 texts_sealed k w [] [] [] t s = ([], tt, tt)
 texts_sealed k w [] [] (p ∷ ps) t s = absurd t
@@ -58,7 +60,9 @@ nil_zip : (k : Keys) (ps : List Path) → ps ≡ [] → Zips (Seals k) ps []
 unfolding Zips
 nil_zip k ps e = subst (λ (x : List Path). Zips (Seals k) x []) (sym e) tt
 
-pub list_sealed : (k : Keys) → AreKeys k → (texts vs : Option (List (List ℕ))) (ps : List Path) → AreTextsOf texts ps → SealsList k texts vs → (qs : List Path) × AreTextsOf vs qs × Zips (Seals k) ps qs
+-- the same of a list of texts
+pub list_sealed : (k : Keys) → AreKeys k → (texts vs : Option (List (List ℕ))) (ps : List Path) → AreTextsOf texts ps → SealsList k texts vs
+    → (qs : List Path) × AreTextsOf vs qs × Zips (Seals k) ps qs
 unfolding AreTextsOf
 list_sealed k w None None ps t s = ([], refl, nil_zip k ps t)
 list_sealed k w None (Some vs) ps t s = absurd s
@@ -67,7 +71,8 @@ list_sealed k w (Some texts) (Some vs) ps t s = texts_sealed k w texts vs ps t s
 
 -- ---- contents
 
-holds_sealed : (keys : List (List ℕ)) (iv : List ℕ) (p : Path) (sequential : Bool) (d : Option (List ℕ)) (n name : List ℕ) → IsIvOf keys iv → IsPath p → IsLast sequential n → IsGiven sequential n name
+holds_sealed : (keys : List (List ℕ)) (iv : List ℕ) (p : Path) (sequential : Bool) (d : Option (List ℕ)) (n name : List ℕ) → IsIvOf keys iv → IsPath p
+    → IsLast sequential n → IsGiven sequential n name
     → Holds keys (name ∷ p) d (Some (SealData keys iv (n ∷ p) sequential d))
 unfolding Holds IsGiven IsLast
 holds_sealed keys iv p false d n name e hp h g = subst (λ (x : List ℕ). Accepts keys (x ∷ p) (SealData keys iv (n ∷ p) false d) d) (sym g) (accepted_when_sealed keys iv (n ∷ p) d e.size e.known)
@@ -122,7 +127,9 @@ named_sealed k w v n p false hp h e = record {
   spelled = e ∙ ap text_of (sealed_child k p n);
 }
 
-pub sealed_create : (k : EntryKeys) → AreKeys k.names → (ivs : List (List ℕ)) (r v : CreateRequest) (p : Path) (n : List ℕ) (d : Option (List ℕ)) (q e : Bool) → All (IsIvOf k.payloads) ivs → TextCreate k ivs r v → IsCreate r p n d q e → SealedCreate k r v p n d q e
+-- what a sealed create asks
+pub sealed_create : (k : EntryKeys) → AreKeys k.names → (ivs : List (List ℕ)) (r v : CreateRequest) (p : Path) (n : List ℕ) (d : Option (List ℕ)) (q e : Bool)
+    → All (IsIvOf k.payloads) ivs → TextCreate k ivs r v → IsCreate r p n d q e → SealedCreate k r v p n d q e
 sealed_create k w ivs r v p n d q e good t h =
     let same : t.sequential ≡ q = same_sequential r.flags r.path t.path t.sequential q t.named h.numbered in
     let named : IsNameOf r.flags r.path q t.path = subst (λ (b : Bool). IsNameOf r.flags r.path b t.path) same t.named in
@@ -148,6 +155,7 @@ sealed_create k w ivs r v p n d q e good t h =
 
 -- ---- what no rule refuses stays so
 
+-- a rule that does not fit
 pub rule_passes : (Holds : Type 0) (code : ℤ) (Next : Option ℤ → Type 0) → (Holds → ⊥) → Next None → Rule Holds code Next None
 unfolding Rule
 rule_passes Holds code Next f n = inr (f, n)
@@ -168,9 +176,11 @@ unfolding IsBelow
 sealed_below k [] v f h e = f
 sealed_below k (n ∷ p) v f h e = not_root_sealed k n p (one_text (sealed k (n ∷ p)) [] h.asked.legal (All-nil IsComponent) (sym h.asked.spelled ∙ text_of_root v e))
 
+-- no rule for paths refuses a sealed path
 pub path_allows : (k : Keys) (p : Path) (v : List ℕ) → IsSealedText k p v → RefusesPath v None
 path_allows k p v h = rule_passes _ _ _ (λ f. f (path_text k p v h)) refl
 
+-- nor one for nodes below the root
 pub node_allows : (k : Keys) (p : Path) (v : List ℕ) → IsBelow p → IsSealedText k p v → RefusesNode v None
 node_allows k p v b h = rule_passes _ _ _ (λ f. f (path_text k p v h)) (rule_passes _ _ _ (sealed_below k p v b h) refl)
 
@@ -187,7 +197,9 @@ not_root_named text false m p h f e = let g = one_text (m ∷ p) [] h.legal (All
 pub open_same : (a b : Option (List Acl)) → b ≡ a → IsOpen a → IsOpen b
 open_same a b e h = e ∙ h
 
-pub create_allows : (k : EntryKeys) → AreKeys k.names → (r v : CreateRequest) (p : Path) (n : List ℕ) (d : Option (List ℕ)) (q e : Bool) → RefusesCreate r None → v.flags ≡ r.flags → v.acls ≡ r.acls → SealedCreate k r v p n d q e → RefusesCreate v None
+-- nor one for creates
+pub create_allows : (k : EntryKeys) → AreKeys k.names → (r v : CreateRequest) (p : Path) (n : List ℕ) (d : Option (List ℕ)) (q e : Bool) → RefusesCreate r None
+    → v.flags ≡ r.flags → v.acls ≡ r.acls → SealedCreate k r v p n d q e → RefusesCreate v None
 create_allows k w r v p n d q e h flags acls s =
     rule_passes _ _ _ (λ f. f (name_for v.flags v.path q (SealName k.names p n) (sealed k.names p) s.asked.named s.asked.numbered))
     (rule_passes _ _ _ (λ g. not_root_named v.path q (SealName k.names p n) (sealed k.names p) s.asked.named (λ t. g.1 (s.asked.numbered.0 t)) g.0)

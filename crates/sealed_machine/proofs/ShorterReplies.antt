@@ -103,7 +103,8 @@ no_error = omega (arith, ints)
 told_in : (o : Outcome) (b : List ℕ) (limit : ℕ) → AddsBytes [] b (IsOutcome o) → FitsSigned w32 (err_of o) → length b ≤ limit → IsToldIn o limit
 told_in o b limit a fits l = record { outcome = record { bytes = a.bytes; is = a.is; within = omega (arith, ap length a.added, l) }; code = fits }
 
-plain_outcome : (k : EntryKeys) → AreKeys k.names → (asked : Asked) (stored told : Outcome) → IsPlain k asked stored told → (b : List ℕ) → SpellsOutcome (shape_for asked) stored b → IsToldIn told (length b)
+plain_outcome : (k : EntryKeys) → AreKeys k.names → (asked : Asked) (stored told : Outcome) → IsPlain k asked stored told → (b : List ℕ)
+    → SpellsOutcome (shape_for asked) stored b → IsToldIn told (length b)
 unfolding IsPlain SpellsOutcome SpellsForm Shrinks
 plain_outcome k w asks.Empty outcomes.Empty outcomes.Empty h b s = told_in outcomes.Empty [] (length b) (empty_added []) no_error (omega arith)
 plain_outcome k w asks.Close outcomes.Empty outcomes.Empty h b s = told_in outcomes.Empty [] (length b) (empty_added []) no_error (omega arith)
@@ -140,13 +141,15 @@ plain_outcome k w asked stored told h b s = absurd h
 error_outcome : (told : Outcome) (code : ℤ) (limit : ℕ) → told ≡ outcomes.Error code → code ≢ pos 0 → FitsSigned w32 code → IsToldIn told limit
 error_outcome told code limit e other fits = subst (λ (o : Outcome). IsToldIn o limit) (sym e) (told_in (outcomes.Error code) [] limit (error_added code [] other) fits (omega arith))
 
-stored_outcome : (k : EntryKeys) → AreKeys k.names → (asked : Asked) (stored told : Outcome) → AdmitsStored k asked stored told None → FitsSigned w32 (err_of stored) → (b : List ℕ) → SpellsOutcome (shape_for asked) stored b → IsToldIn told (length b)
+stored_outcome : (k : EntryKeys) → AreKeys k.names → (asked : Asked) (stored told : Outcome) → AdmitsStored k asked stored told None → FitsSigned w32 (err_of stored)
+    → (b : List ℕ) → SpellsOutcome (shape_for asked) stored b → IsToldIn told (length b)
 unfolding AdmitsStored SpellsOutcome
 stored_outcome k w asked (outcomes.Error code) told h fits b s = error_outcome told code (length b) h.0 s.0 fits
 stored_outcome k w asked stored told (inl h) fits b s = plain_outcome k w asked stored told h.1 b s
 stored_outcome k w asked stored told (inr h) fits b s = let e = h.1 in absurd cc
 
-told_outcome : (k : EntryKeys) → AreKeys k.names → (asked : Asked) (stored told : Outcome) → IsAnswerable asked → AdmitsOutcome k asked stored told None → FitsSigned w32 (err_of stored) → (b : List ℕ) → SpellsOutcome (shape_for asked) stored b → IsToldIn told (length b)
+told_outcome : (k : EntryKeys) → AreKeys k.names → (asked : Asked) (stored told : Outcome) → IsAnswerable asked → AdmitsOutcome k asked stored told None
+    → FitsSigned w32 (err_of stored) → (b : List ℕ) → SpellsOutcome (shape_for asked) stored b → IsToldIn told (length b)
 unfolding IsAnswerable AdmitsOutcome
 told_outcome k w (asks.Refused code) stored told a h fits b s = error_outcome told code (length b) h.0 a.0 a.1
 told_outcome k w asked stored told a h fits b s = stored_outcome k w asked stored told h fits b s
@@ -175,7 +178,8 @@ header_told : (xid zxid a b : ℤ) → FitsSigned w32 b → Shrinks reply_header
 header_told xid zxid a b fits =
     shrinks_pair int (pair long int) xid xid (zxid, a) (zxid, b) (shrinks_same int xid) (shrinks_pair long int zxid zxid a b (shrinks_same long zxid) (shrinks_code a b fits))
 
-reply_told : (k : EntryKeys) → AreKeys k.names → (asked : Asked) (stored told : Reply) (body : List ℕ) → IsAnswerable asked → Admits k asked stored told None → IsReply stored body → IsWritten (IsReply told) (length body)
+reply_told : (k : EntryKeys) → AreKeys k.names → (asked : Asked) (stored told : Reply) (body : List ℕ) → IsAnswerable asked → Admits k asked stored told None
+    → IsReply stored body → IsWritten (IsReply told) (length body)
 unfolding Shrinks
 reply_told k w asked stored told body a h s =
     let old = s (shape_for asked) h.shaped in
@@ -216,7 +220,8 @@ record AreWritten (ms : List Message) (limit : ℕ) : Type 0 where
   spelled : Messages ms bytes
   within : length bytes ≤ limit
 
-one_more : (m : Message) (ms : List Message) (body more bytes : List ℕ) → FitsFrame body → bytes ≡ frame body ++ more → IsWritten (SpellsMessage m) (length body) → AreWritten ms (length more) → AreWritten (m ∷ ms) (length bytes)
+one_more : (m : Message) (ms : List Message) (body more bytes : List ℕ) → FitsFrame body → bytes ≡ frame body ++ more → IsWritten (SpellsMessage m) (length body)
+    → AreWritten ms (length more) → AreWritten (m ∷ ms) (length bytes)
 unfolding Messages
 one_more m ms body more bytes fits cut a b = record {
   bytes = frame a.bytes ++ b.bytes;
@@ -224,7 +229,8 @@ one_more m ms body more bytes fits cut a b = record {
   within = omega (arith, a.within, b.within, ap length cut, frame_size a.bytes, frame_size body, length-append (frame a.bytes) b.bytes, length-append (frame body) more);
 }
 
-all_written : (k : EntryKeys) → AreKeys k.names → (asked : List Question) (ms told : List Message) (bytes : List ℕ) → AreAnswerable asked → Talks k asked ms told → Messages told bytes → AreWritten ms (length bytes)
+all_written : (k : EntryKeys) → AreKeys k.names → (asked : List Question) (ms told : List Message) (bytes : List ℕ) → AreAnswerable asked → Talks k asked ms told
+    → Messages told bytes → AreWritten ms (length bytes)
 unfolding AreAnswerable Messages SpellsMessage
 all_written k w asked ms told bytes a silent s = record { bytes = []; spelled = refl; within = omega arith }
 all_written k w asked ms told bytes a (told_event e f asked' ms' ns' i h) (body, more, one, fits, cut, rest) =
@@ -234,5 +240,6 @@ all_written k w asked ms told bytes a (told_reply q r f asked' ms' ns' x i h) (b
 all_written k w asked ms told bytes a (told_session r asked' ms' ns' h) (body, more, one, fits, cut, rest) =
     one_more (messages.Connected r) ms' body more bytes fits cut (record { bytes = body; is = one; within = omega arith }) (all_written k w asked' ms' ns' more a h rest)
 
-pub fits_plain : (k : EntryKeys) (asked : List Question) (ms told : List Message) (bytes : List ℕ) → AreKeys k.names → AreAnswerable asked → Talks k asked ms told → Messages told bytes → (plain_bytes : List ℕ) × Messages ms plain_bytes × (length plain_bytes ≤ length bytes)
+pub fits_plain : (k : EntryKeys) (asked : List Question) (ms told : List Message) (bytes : List ℕ) → AreKeys k.names → AreAnswerable asked → Talks k asked ms told
+    → Messages told bytes → (plain_bytes : List ℕ) × Messages ms plain_bytes × (length plain_bytes ≤ length bytes)
 fits_plain k asked ms told bytes w a h s = let r = all_written k w asked ms told bytes a h s in (r.bytes, r.spelled, r.within)

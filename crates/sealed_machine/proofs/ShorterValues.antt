@@ -162,6 +162,7 @@ unfolding size_of
 opened_shorter keys p payload None a = omega arith
 opened_shorter keys p payload (Some d) a = omega (arith, accepted_size keys payload p (Some d) a)
 
-pub shrinks_node : (keys : List (List ℕ)) (p : Path) (y d : Option (List ℕ)) (stored plain : Stat) → IsPlainContent keys p y stored d plain → Shrinks (pair buffer stat) (y, stat_fields stored) (d, stat_fields plain)
+pub shrinks_node : (keys : List (List ℕ)) (p : Path) (y d : Option (List ℕ)) (stored plain : Stat) → IsPlainContent keys p y stored d plain
+    → Shrinks (pair buffer stat) (y, stat_fields stored) (d, stat_fields plain)
 shrinks_node keys p y d stored plain h =
     shrinks_pair buffer stat y d (stat_fields stored) (stat_fields plain) (shrinks_content y d (opened_shorter keys p (content_of y) d h.accepted)) (shrinks_stat p stored plain h.stat)

@@ -51,6 +51,7 @@ pub record StaysInStep : Type 0 where
 pub record FitsPlain : Type 0 where
   pub messages : (k : EntryKeys) (asked : List Question) (ms told : List Message) (bytes : List ℕ) → AreKeys k.names → AreAnswerable asked
       → Talks k asked ms told → Messages told bytes → (plain_bytes : List ℕ) × Messages ms plain_bytes × (length plain_bytes ≤ length bytes)
-  pub answers : (k : EntryKeys) (naming : Naming) (order : List Entry) (acts sealed_acts : List Act) (told : ℕ → List Message) (bytes : ℕ → List ℕ) → AreKeys k.names → IsNaming (IsSealedName k.names) naming
+  pub answers : (k : EntryKeys) (naming : Naming) (order : List Entry) (acts sealed_acts : List Act) (told : ℕ → List Message) (bytes : ℕ → List ℕ) → AreKeys k.names
+      → IsNaming (IsSealedName k.names) naming
       → AreActs order acts → Zips (VeilsAct k) acts sealed_acts → ((c : ℕ) → Shown (out naming sealed_acts c) (told c)) → ((c : ℕ) → Messages (told c) (bytes c))
       → All FitsOutput (outputs plain start acts)
