@@ -2,6 +2,7 @@ pub mod Lengths
 pub mod Paths
 pub mod Sets
 pub mod Opening
+pub mod Under
 pub mod Multis
 pub mod Answering
 pub mod Told
