@@ -15,7 +15,6 @@ pub mod Held
 pub mod Closing
 pub mod UpWhole
 pub mod Ends
-pub mod Fits
 pub mod Told
 pub mod Joined
 pub mod Served
