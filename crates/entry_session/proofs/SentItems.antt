@@ -1,5 +1,5 @@
 -- What a session kept of what its client sent: the first of the items that its bytes spell, and all of them while it goes on.
-use Rattle.std.proofs.Common.{◌≡◌, ℕ, ◌≤◌, Bool, true, false, cond, List, [], ◌∷◌, ◌++◌, None, length, refl, sym, ap, subst, ◌∙◌, arith, append_assoc, append-nil}
+use Rattle.std.proofs.Common.{◌≡◌, ℕ, ◌≤◌, Bool, true, false, cond, List, [], ◌∷◌, ◌++◌, Option, Some, None, length, refl, sym, ap, subst, ◌∙◌, arith, append_assoc, append-nil}
 use Rattle.jute_core.specs.Frames.{frame, FitsFrame, IsRest}
 use Rattle.jute_core.proofs.OneStream.{one_frame}
 use Rattle.payload_seal.specs.declared.keys.EntryKeys.{EntryKeys}
@@ -10,7 +10,8 @@ use Rattle.entry_session.specs.ClientTurns.{ClientTurn, malformed_frame, full_qu
 use Rattle.entry_session.specs.Heard.{Heard, from_client, from_store, bad_client, bad_store, given, client_frames}
 use Rattle.entry_session.specs.Laws.{TakesWhatWasSent}
 use Rattle.entry_session.specs.Runs.{TurnOf, Ran}
-use Rattle.entry_session.specs.Sides.{bytes_of}
+use Rattle.entry_session.specs.Sides.{bytes_of, EndsAtClient}
+use Rattle.entry_session.specs.declared.ending.Ending.{Ending}
 use Rattle.entry_session.specs.Stands.{Stand, fresh}
 use Rattle.entry_session.specs.Veiled.{SpellsItems}
 use Rattle.entry_session.proofs.HandedUp.{spells_one}
@@ -143,6 +144,11 @@ ends_alike (i ∷ items) rest h = h
 nothing_after : (rest : List (List ℕ)) (partial under_way : List ℕ) → rest ≡ [] → under_way ≡ [] → bytes_of rest ++ (partial ++ under_way) ≡ partial
 nothing_after rest partial under_way e f = ap (λ l. bytes_of l ++ (partial ++ under_way)) e ∙ ap (λ l. partial ++ l) f ∙ append-nil partial
 
+not_at_client : (ending : Option Ending) (hs : List Heard) → ending ≡ None → EndsAtClient ending hs → ⊥
+unfolding EndsAtClient
+not_at_client None hs e h = h
+not_at_client (Some a) hs e h = absurd cc
+
 pub takes_what_was_sent : TakesWhatWasSent
 takes_what_was_sent k boot c hs s taken under_way items ran side sent =
     let x = items_sent k boot c hs s ran in
@@ -154,6 +160,6 @@ takes_what_was_sent k boot c hs s taken under_way items ran side sent =
       first = b.front;
       all = λ going none.
           let tail = nothing_after x.rest side.rest under_way (x.all going) none in
-          let no_more = none_there b.kind b.more b.rest side.rest (side.partial going) (subst (λ (l : List ℕ). Items b.kind b.more b.rest l) tail b.spelled) in
+          let no_more = none_there b.kind b.more b.rest side.rest (side.partial (not_at_client s.ending hs going)) (subst (λ (l : List ℕ). Items b.kind b.more b.rest l) tail b.spelled) in
           sym (b.front ∙ ap (λ l. s.items ++ l) no_more ∙ append-nil s.items);
     }

@@ -6,7 +6,7 @@ use Rattle.payload_seal.specs.declared.keys.EntryKeys.{EntryKeys}
 use Rattle.zk_messages.specs.Sent.{Sent, client_limit}
 use Rattle.zk_messages.specs.declared.request.Item.{Item}
 use Rattle.entry_session.specs.Heard.{Heard, client_frames, store_frames, bad_of_client}
-use Rattle.entry_session.specs.Sides.{IsSide}
+use Rattle.entry_session.specs.Sides.{IsSide, EndsAtClient}
 use Rattle.entry_session.specs.Stands.{Stand}
 use Rattle.entry_session.specs.ClientTurns.{greatest_epoch}
 use Rattle.entry_session.specs.Runs.{Ran}
@@ -53,4 +53,4 @@ pub record TakesFirst (s : Stand) (under_way : List ℕ) (items : List Item) : T
 -- so it is with the items that a client sent, of whose bytes the session took the first and others are under way
 abbrev pub TakesWhatWasSent : Type 0
 TakesWhatWasSent = (k : EntryKeys) (boot c : ℕ) (hs : List Heard) (s : Stand) (taken under_way : List ℕ) (items : List Item) → Ran k boot c hs s
-    → IsSide client_limit (client_frames hs) (bad_of_client hs) s.ending taken → Sent (taken ++ under_way) items → TakesFirst s under_way items
+    → IsSide client_limit (client_frames hs) (bad_of_client hs) (EndsAtClient s.ending hs) taken → Sent (taken ++ under_way) items → TakesFirst s under_way items

@@ -1,5 +1,5 @@
 -- After the reply to a closeSession nothing comes to its connection, and its order has nothing more of it.
-use Rattle.std.proofs.Common.{◌≡◌, ◌≢◌, ℕ, ℤ, Bool, true, false, cond, List, [], ◌∷◌, ◌++◌, Option, Some, None, map, filter, inl, inr, refl, sym, ap, subst, ◌∙◌, append_assoc, append-nil}
+use Rattle.std.proofs.Common.{◌≡◌, ℕ, ℤ, Bool, true, false, cond, List, [], ◌∷◌, ◌++◌, Option, Some, None, filter, inl, inr, refl, sym, ap, subst, ◌∙◌, append_assoc, append-nil}
 use Rattle.std.specs.Prelude.{◌==◌, ◌||◌, not}
 use Rattle.std.specs.List.{list_any}
 use Rattle.std.proofs.lemmas.Bool.{cases_Bool, eqb-true, eq-eqb}
@@ -17,11 +17,11 @@ use Rattle.tree_state.specs.declared.message.Output.{Output}
 use Rattle.tree_state.specs.declared.node.Moment.{Moment}
 use Rattle.tree_state.specs.declared.session.Given.{Given}
 use Rattle.tree_state.specs.Nodes.{ephemerals}
-use Rattle.tree_state.specs.State.{State, Session, Watch, is_of_other, left_of_others, session_of, without_session, next_zxid}
-use Rattle.tree_state.specs.Commands.{Change, create, delete, set_content, check, Command, IsCommand, Asks, refused, single, multi, set_acl, stat_at, get_content, get_acl, get_children, sync, ping, set_watches, close}
-use Rattle.tree_state.specs.Changes.{Naming, all_deleted}
+use Rattle.tree_state.specs.State.{State, Watch, is_of_other, left_of_others, session_of, without_session}
+use Rattle.tree_state.specs.Commands.{create, delete, set_content, check, Command, IsCommand, Asks, refused, single, multi, set_acl, stat_at, get_content, get_acl, get_children, sync, ping, set_watches, close}
+use Rattle.tree_state.specs.Changes.{all_deleted}
 use Rattle.tree_state.specs.Plain.{plain}
-use Rattle.tree_state.specs.Step.{Act, connects, asks as asking, loses, expires, answer, closed, taken, replied, hears, step, connected}
+use Rattle.tree_state.specs.Step.{Act, connects, asks as asking, answer, closed, taken, replied, hears, step, connected}
 use Rattle.tree_server.specs.Out.{outputs, to_connection}
 use Rattle.tree_server.proofs.Zipping.{Zips}
 use Rattle.sealed_machine.specs.Runs.{Question}
@@ -31,8 +31,8 @@ use Rattle.sealed_machine.proofs.NoTrace.{is_of, nothing_to, NoTrace, IsOthers, 
 use Rattle.sealed_machine.proofs.FirstAnswers.{IsNoConnect}
 use Rattle.session_law.proofs.Orders.{Entry, Connect, Take, Lost, Expire, IsAct, IsAsked, MayCome, HasSession, LegalFrom, HasNoConnect, ConnectsOnce}
 use Rattle.session_law.proofs.Filling.{items_in}
-use Rattle.session_law.proofs.Begun.{flipped, not_same, other_items, own_items, no_connect_act, no_connect_rest, once_rest, others_act, others_asked, others_items, asked_other}
-use Rattle.session_law.proofs.Held.{IsNoClose, IsHeld, HeldIn, hears_held, held_number, none_after, all_deleted_keeps, own_connected, step_held}
+use Rattle.session_law.proofs.Begun.{own_items, no_connect_act, no_connect_rest, once_rest, others_act, others_asked, others_items}
+use Rattle.session_law.proofs.Held.{IsHeld, HeldIn, hears_held, held_number, none_after, all_deleted_keeps, own_connected, step_held}
 
 -- ---- what a connection asks
 
@@ -279,8 +279,8 @@ module _ (passwords : ℤ → List ℕ) (c : ℕ) where
   choose s (Connect d asked session timeout password zxid now) es f fs n o a m acts l later =
       elim (cases_Bool (d == c)) [
         | inl t ↦ let same = eqb-true d c t in
-        quiet_entry c s (Connect d asked session timeout password zxid now) es f _ fs a refl (of_entry (c == d) (items.Asks asked)) (front_item (c == d) (items.Asks asked) (items_in c es))
-        (closing_after session es fs (step plain s f).state (own_connect c d asked _ now s f same a n) (subst (λ (x : ℕ). HasNoConnect x es) same o.0) acts l)
+            quiet_entry c s (Connect d asked session timeout password zxid now) es f _ fs a refl (of_entry (c == d) (items.Asks asked)) (front_item (c == d) (items.Asks asked) (items_in c es))
+            (closing_after session es fs (step plain s f).state (own_connect c d asked _ now s f same a n) (subst (λ (x : ℕ). HasNoConnect x es) same o.0) acts l)
         | inr i ↦ quiet_other s (Connect d asked session timeout password zxid now) es f fs n a (others_act c passwords s (Connect d asked session timeout password zxid now) f n a m (subst (IsNoConnect c) (sym a) i)) later
       ]
   choose s (Take d xid r zxid now) es f fs n o a m acts l later = quiet_other s (Take d xid r zxid now) es f fs n a (others_act c passwords s (Take d xid r zxid now) f n a m (subst (IsNoConnect c) (sym a.is) tt)) later

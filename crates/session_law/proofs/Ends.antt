@@ -1,7 +1,6 @@
 -- Where a session was closed, nothing is left of what the plain machine sends it, and the order has a closeSession last.
-use Rattle.std.proofs.Common.{◌≡◌, ◌⊎◌, ℕ, ℤ, List, [], ◌∷◌, ◌++◌, inl, inr, refl, sym, ap, subst, ◌∙◌, append_assoc}
+use Rattle.std.proofs.Common.{◌≡◌, ◌⊎◌, ℕ, ℤ, List, [], ◌∷◌, ◌++◌, inl, inr, sym, ap, subst, ◌∙◌, append_assoc}
 use Rattle.payload_seal.specs.declared.keys.EntryKeys.{EntryKeys}
-use Rattle.request_queue.specs.declared.asked.Asked.{Asked}
 use Rattle.request_queue.specs.declared.asked.Asked.TheVariants as asks
 use Rattle.zk_messages.specs.declared.reply.Event.{Event}
 use Rattle.zk_messages.specs.declared.reply.Reply.{Reply}

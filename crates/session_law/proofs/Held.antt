@@ -1,16 +1,15 @@
 -- Which session a connection has: only a connect, a loss, an expiry and a closeSession change it.
 use Rattle.std.proofs.Common.{◌≡◌, ℕ, ℤ, pos, Bool, true, false, cond, List, [], ◌∷◌, ◌++◌, Option, Some, None, map, filter, refl, sym, ap, subst, ◌∙◌}
 use Rattle.std.specs.Prelude.{◌==◌, not}
-use Rattle.std.specs.List.{list_any}
 use Rattle.std.specs.Ordering.{int_eq}
 use Rattle.std.proofs.lemmas.Bool.Decides.{Decides-int_eq, not_from_Decides}
 use Rattle.tree_state.specs.declared.node.Moment.{Moment}
 use Rattle.tree_state.specs.declared.session.Given.{Given}
-use Rattle.tree_state.specs.Nodes.{Path, Place, Node, find, ephemerals}
-use Rattle.tree_state.specs.State.{State, Session, Watch, on_data, on_children, is_of_other, left_of_others, has_connection, session_of, is_numbered, changed_session, change_session, heard_at, moved_to, is_other_session, without_session, without_connection, session_at, next_zxid}
+use Rattle.tree_state.specs.Nodes.{Path, Node, find, ephemerals}
+use Rattle.tree_state.specs.State.{State, Session, has_connection, session_of, is_numbered, changed_session, change_session, heard_at, moved_to, is_other_session, without_session, without_connection, session_at, next_zxid}
 use Rattle.tree_state.specs.Commands.{Change, create, delete, set_content, check, Command, refused, single, multi, set_acl, stat_at, get_content, get_acl, get_children, sync, ping, set_watches, close}
 use Rattle.tree_state.specs.Changes.{Trial, failed, done, need, refuse, Naming, Effect, Effects, created, deleted, updated, perform, no_effects, after_effect, or_failed, perform_all, all_deleted}
-use Rattle.tree_state.specs.Step.{Act, connects, asks as asking, loses, expires, step, taken, replied, expired, Answer, with_error, told_only, or_error, answer_single, answer_multi, with_watch, Noticed, with_noticed, closed, answer, hears, with_session, with_moved, connected_at, connected, ended, lost}
+use Rattle.tree_state.specs.Step.{Act, connects, asks as asking, loses, expires, step, taken, replied, expired, Answer, with_error, told_only, or_error, answer_single, answer_multi, with_watch, with_noticed, closed, answer, hears, with_session, with_moved, connected_at, connected, ended, lost}
 use Rattle.sealed_machine.proofs.NoTrace.{no_connection_none}
 use Rattle.sealed_machine.proofs.FirstAnswers.{IsNoConnect}
 

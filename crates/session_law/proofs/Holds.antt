@@ -1,6 +1,5 @@
 -- The law over many sessions.
-use Rattle.std.proofs.Common.{◌≡◌, ℕ, ℤ, List, ◌++◌}
-use Rattle.std.specs.Prelude.{◌<◌}
+use Rattle.std.proofs.Common.{ℕ, List, ◌++◌}
 use Rattle.tree_state.specs.State.{start}
 use Rattle.tree_state.specs.Plain.{plain}
 use Rattle.tree_server.specs.Messages.{Messages}
@@ -16,8 +15,8 @@ holds k boot naming passwords past x items under_way unfed w some names follows 
     let order = filled k w some boot naming names passwords past x items under_way unfed follows j in
     let acts = filled_acts k w some boot naming names passwords past x items under_way unfed follows j in
     let fits : (c : ℕ) → (bytes : List ℕ) × Messages (out plain acts.acts c) bytes =
-        λ c. let r = plain_fits.messages k _ _ (past.told c) (past.pulled c ++ past.waiting c) w (all_answerable c start order.plain_order acts.acts acts.are)
-        (talks_of k w some boot naming names passwords past x items under_way unfed follows j c) (follows.spelled c) in (r.0, r.1) in
+    λ c. let r = plain_fits.messages k _ _ (past.told c) (past.pulled c ++ past.waiting c) w (all_answerable c start order.plain_order acts.acts acts.are)
+    (talks_of k w some boot naming names passwords past x items under_way unfed follows j c) (follows.spelled c) in (r.0, r.1) in
     record {
       plain_order = order.plain_order;
       fills = filled_fills k w some boot naming names passwords past x items under_way unfed follows j;

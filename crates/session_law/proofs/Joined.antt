@@ -1,38 +1,32 @@
 -- The law: over a store that follows, every connection that is joined to it is served.
-use Rattle.std.proofs.Common.{◌≡◌, ℕ, ℤ, true, false, List, [], ◌∷◌, ◌++◌, None, Some, length, refl, sym, ap, subst, ◌∙◌, append_assoc, append-nil}
+use Rattle.std.proofs.Common.{◌≡◌, ℕ, ℤ, true, List, ◌++◌, length, ap, subst, ◌∙◌, append_assoc}
 use Rattle.std.specs.Prelude.{◌<◌}
 use Rattle.path_seal.specs.Sealed.{AreKeys}
 use Rattle.payload_seal.specs.declared.keys.EntryKeys.{EntryKeys}
 use Rattle.zk_messages.specs.Sent.{Sent}
 use Rattle.zk_messages.specs.declared.request.Item.{Item}
 use Rattle.counter_enclave.specs.Enclave.{IsSealedName}
-use Rattle.tree_state.specs.declared.message.Message.{Message}
 use Rattle.tree_state.specs.State.{start}
 use Rattle.tree_state.specs.Trees.{IsNaming}
 use Rattle.tree_state.specs.Plain.{plain}
 use Rattle.tree_state.specs.Changes.{Naming}
-use Rattle.tree_server.specs.Messages.{Messages}
-use Rattle.tree_server.specs.Out.{out, outputs}
-use Rattle.tree_server.specs.Orders.{LegalFrom, ConnectsOnce, Legal}
+use Rattle.tree_server.specs.Out.{out}
+use Rattle.tree_server.specs.Orders.{LegalFrom, ConnectsOnce}
 use Rattle.tree_server.specs.Follows.{Past, Follows}
-use Rattle.tree_server.proofs.Zipping.{Zips}
 use Rattle.sealed_machine.specs.Runs.{Talks, all_asked}
 use Rattle.sealed_machine.proofs.SealedSteps.{start_sealed}
 use Rattle.sealed_machine.proofs.Connections.{all_match, all_told}
 use Rattle.sealed_machine.proofs.NoTrace.{start_none}
 use Rattle.entry_session.specs.Laws.{TakesFirst}
 use Rattle.entry_session.specs.Sides.{bytes_of}
-use Rattle.entry_session.specs.Heard.{store_frames}
 use Rattle.entry_session.specs.Veiled.{SpellsItems}
-use Rattle.entry_session.specs.declared.ending.Ending.TheVariants as endings
 use Rattle.entry_session.proofs.HandedUp.{HandedUp, handed}
 use Rattle.entry_session.proofs.SentItems.{takes_what_was_sent}
 use Rattle.tree_server.specs.Fill.{Fills, items_in}
 use Rattle.session_law.specs.Law.{Connection, IsJoined}
-use Rattle.tree_server.specs.Fill.{IsFront}
 use Rattle.session_law.proofs.Words.{IsOrderly}
 use Rattle.session_law.proofs.Orders.{PlainActs, plain_acts, legal_filled, connects_once}
-use Rattle.session_law.proofs.Filling.{IsFilled, Filled, fill_all, fills_more, taken_front, all_sealed}
+use Rattle.session_law.proofs.Filling.{Filled, fill_all, fills_more, taken_front, all_sealed}
 use Rattle.session_law.proofs.Begun.{XidsFit, before}
 use Rattle.session_law.proofs.InOrder.{spelled_fit, sealed_fit, front_fit, orderly}
 use Rattle.session_law.proofs.Closing.{Closing, closing}

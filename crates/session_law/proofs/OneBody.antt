@@ -1,8 +1,6 @@
 -- A message has one spelling.
-use Rattle.std.proofs.Common.{◌≡◌, ℕ, List, Bool, Option, Some, None}
-use Rattle.jute_core.specs.Jute.{Spells}
+use Rattle.std.proofs.Common.{◌≡◌, ℕ, List}
 use Rattle.jute_core.proofs.SameSpelling.{same_bytes}
-use Rattle.zk_records.specs.declared.connect.ConnectResponse.{ConnectResponse}
 use Rattle.zk_records.specs.Connect.{response_form, response_fields}
 use Rattle.zk_messages.specs.Replies.{HasShape, IsReply}
 use Rattle.zk_messages.specs.declared.reply.Outcome.{Outcome}

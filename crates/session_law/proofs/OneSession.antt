@@ -12,7 +12,7 @@ use Rattle.sealed_machine.specs.Runs.{Question, Talks, silent, told_event, told_
 use Rattle.entry_session.specs.ClientTurns.{ClientTurn, malformed_frame, full_queue, spent_ivs, handed_up}
 use Rattle.entry_session.specs.Heard.{Heard, from_client, from_store, bad_client, bad_store, given, store_frames, bad_of_store}
 use Rattle.entry_session.specs.Runs.{IsGivenEnding, store_limit, TurnOf, Ran}
-use Rattle.entry_session.specs.Sides.{IsSide}
+use Rattle.entry_session.specs.Sides.{IsSide, EndsAtStore}
 use Rattle.entry_session.specs.Stands.{Stand, fresh}
 use Rattle.entry_session.specs.declared.ending.Ending.{Ending}
 use Rattle.entry_session.specs.declared.ending.Ending.TheVariants as endings
@@ -119,13 +119,13 @@ module _ (k : EntryKeys) (boot c : ℕ) (w : AreKeys k.names) (r : ConnectRespon
 
 -- the same from the bytes of the store's side
 pub reached : (k : EntryKeys) (boot c : ℕ) → AreKeys k.names → (r : ConnectResponse) (qs : List Question) (ms ns told : List Message) (hs : List Heard) (s : Stand) (pulled waiting : List ℕ) → told ≡ messages.Connected r ∷ ns → Talks k qs ms ns → HasNoConnected ns
-    → Ran k boot c hs s → IsBegun r qs s.items → Messages told (pulled ++ waiting) → IsSide store_limit (store_frames hs) (bad_of_store hs) s.ending pulled → AreBehind told hs → Reached k r qs ms ns hs s
+    → Ran k boot c hs s → IsBegun r qs s.items → Messages told (pulled ++ waiting) → IsSide store_limit (store_frames hs) (bad_of_store hs) (EndsAtStore s.ending hs) pulled → AreBehind told hs → Reached k r qs ms ns hs s
 reached k boot c w r qs ms ns told hs s pulled waiting is talks quiet ran begun spelled side behind =
     let whole = whole_frames k boot c hs s ran in
     one_session k boot c w r qs ms ns quiet s.items begun talks hs s [] ran
-    (subst (λ (l : List Message). SpellsFront l (store_frames hs)) is (front_spelled told (store_frames hs) (bad_of_store hs) s.ending pulled waiting whole spelled side))
+    (subst (λ (l : List Message). SpellsFront l (store_frames hs)) is (front_spelled told (store_frames hs) (bad_of_store hs) (EndsAtStore s.ending hs) pulled waiting whole spelled side))
     (subst (λ (l : List Message). AreBehind l hs) is behind)
-    (honest_length told (store_frames hs) (bad_of_store hs) s.ending pulled waiting whole spelled side)
+    (honest_length told (store_frames hs) (bad_of_store hs) (EndsAtStore s.ending hs) pulled waiting whole spelled side)
     (sym (append-nil s.items))
 
 -- ---- all of them

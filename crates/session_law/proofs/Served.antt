@@ -1,6 +1,5 @@
 -- What a connection that is joined to a store that follows comes to.
-use Rattle.std.proofs.Common.{◌≡◌, ℕ, suc, Bool, true, false, List, [], ◌∷◌, ◌++◌, Some, None, length, refl, sym, ap, subst, ◌∙◌, arith, length-append, append_assoc, append-nil}
-use Rattle.jute_core.specs.Frames.{FitsFrame}
+use Rattle.std.proofs.Common.{◌≡◌, ℕ, suc, Bool, true, false, List, [], ◌∷◌, ◌++◌, Option, Some, None, length, refl, sym, ap, subst, ◌∙◌, arith, append_assoc, append-nil}
 use Rattle.payload_seal.specs.declared.keys.EntryKeys.{EntryKeys}
 use Rattle.zk_messages.specs.declared.request.Item.{Item}
 use Rattle.tree_state.specs.declared.message.Message.{Message}
@@ -13,22 +12,23 @@ use Rattle.tree_server.specs.Follows.{Past}
 use Rattle.tree_server.specs.declared.entry.Entry.{Entry}
 use Rattle.tree_server.proofs.Zipping.{Zips}
 use Rattle.sealed_machine.specs.Runs.{all_asked}
-use Rattle.entry_session.specs.Heard.{Heard, store_frames}
-use Rattle.entry_session.specs.Runs.{Ran}
-use Rattle.entry_session.specs.Sides.{bytes_of}
-use Rattle.entry_session.specs.Stands.{Stand}
+use Rattle.entry_session.specs.Heard.{Heard, store_frames, bad_of_store}
 use Rattle.entry_session.specs.Veiled.{SpellsItems}
 use Rattle.entry_session.specs.declared.ending.Ending.TheVariants as endings
-use Rattle.entry_session.proofs.HandedUp.{VeilsUpTo, HandedUp, whole_veiled}
-use Rattle.tree_server.specs.Fill.{Fills, items_in}
-use Rattle.session_law.specs.Law.{Connection, IsJoined, IsServed, VeilsEntry}
-use Rattle.tree_server.specs.Fill.{IsFront, EndsInClose}
+use Rattle.entry_session.proofs.HandedUp.{VeilsUpTo, whole_veiled}
+use Rattle.entry_session.proofs.HandedDown.{hands_down}
+use Rattle.entry_session.specs.Laws.{IsStopped}
+use Rattle.entry_session.specs.Sides.{EndsAtStore}
+use Rattle.entry_session.specs.declared.ending.Ending.{Ending}
+use Rattle.tree_server.specs.Fill.{items_in}
+use Rattle.entry_session.specs.Runs.{IsGivenEnding}
+use Rattle.session_law.specs.Law.{IsHonestEnd, Connection, IsJoined, IsServed, VeilsEntry}
 use Rattle.session_law.proofs.Filling.{same_number}
 use Rattle.session_law.proofs.Closing.{Closing}
 use Rattle.session_law.proofs.Ends.{closed_ends}
-use Rattle.session_law.proofs.Pieces.{AreWhole, Received, received, cut_messages, no_messages, no_frames, whole_back, messages_none, messages_none_bytes}
-use Rattle.session_law.proofs.SessionSides.{whole_frames}
-use Rattle.session_law.proofs.Told.{IsTold, IsLastClosed}
+use Rattle.session_law.proofs.Pieces.{AreWhole, Received, received, no_frames, whole_back, messages_none_bytes}
+use Rattle.session_law.proofs.SessionSides.{whole_frames, all_heard}
+use Rattle.session_law.proofs.Told.{IsTold}
 use Rattle.session_law.proofs.UpWhole.{up_whole}
 use Rattle.session_law.proofs.Joined.{up_of, cut_of, taken_of, takes_of}
 
@@ -55,21 +55,33 @@ spelled_many first [] (b ∷ bs) h = absurd h
 spelled_many first (v ∷ vs) [] h = absurd h
 spelled_many first (v ∷ vs) (b ∷ bs) h = ap suc (spelled_many false vs bs h.1)
 
+-- ---- endings
+
+not_at_store : (ending : Option Ending) (hs : List Heard) → ending ≡ None → EndsAtStore ending hs → ⊥
+unfolding EndsAtStore
+not_at_store None hs e h = h
+not_at_store (Some a) hs e h = absurd cc
+
+-- an honest session stopped at no frame of the store
+not_stopped : (ending : Option Ending) → IsHonestEnd ending → IsStopped ending → ⊥
+unfolding IsHonestEnd IsStopped IsGivenEnding
+not_stopped (Some (endings.StoreMalformed refusal)) h s = h
+not_stopped (Some (endings.WrongXid expected got)) h s = h
+not_stopped (Some (endings.NothingOpen xid)) h s = h
+not_stopped (Some (endings.BadEvent flaw)) h s = h
+not_stopped ending h s = s
+
 -- ---- all that the store told
 
 -- where nothing waits and the session goes on, it heard all of it
 heard_all : (k : EntryKeys) (boot c : ℕ) (past : Past) (x : Connection) (items : List Item) (under_way unfed : List ℕ) (j : IsJoined k boot c past x items under_way unfed) → Messages (past.told c) (past.pulled c ++ past.waiting c) → x.stand.ending ≡ None → past.waiting c ≡ [] → length (past.told c) ≡ length (store_frames x.heard)
 heard_all k boot c past x items under_way unfed j m going none =
-    let bytes : past.pulled c ++ past.waiting c ≡ bytes_of (store_frames x.heard) ++ j.store_side.rest = (λ i. past.pulled c ++ none i) ∙ append-nil (past.pulled c) ∙ j.store_side.whole in
-    let cut = cut_messages (past.told c) (store_frames x.heard) _ j.store_side.rest (whole_frames k boot c x.heard x.stand j.ran) m bytes in
-    let nothing : j.store_side.rest ≡ [] = no_messages cut.left j.store_side.rest cut.after (j.store_side.partial going) in
-    let left : cut.left ≡ [] = messages_none cut.left (subst (Messages cut.left) nothing cut.after) in
-    ap length (cut.cut ∙ ap (λ (l : List Message). cut.done ++ l) left ∙ append-nil cut.done) ∙ cut.count
+    all_heard (past.told c) (store_frames x.heard) (bad_of_store x.heard) (EndsAtStore x.stand.ending x.heard) (past.pulled c) (past.waiting c) (whole_frames k boot c x.heard x.stand j.ran) m j.store_side (not_at_store x.stand.ending x.heard going) none
 
 -- ---- all that was handed up
 
 -- where all was fed and the store's side goes on, it took all of it
-took_all : (k : EntryKeys) (boot c : ℕ) (past : Past) (x : Connection) (items : List Item) (under_way unfed : List ℕ) (j : IsJoined k boot c past x items under_way unfed) → unfed ≡ [] → x.is_over ≡ false → length (items_in c past.order) ≡ length x.stand.items
+took_all : (k : EntryKeys) (boot c : ℕ) (past : Past) (x : Connection) (items : List Item) (under_way unfed : List ℕ) (j : IsJoined k boot c past x items under_way unfed) → unfed ≡ [] → past.over c ≡ false → length (items_in c past.order) ≡ length x.stand.items
 took_all k boot c past x items under_way unfed j fed over =
     let up = up_of k boot c past x items under_way unfed j in
     let cut = cut_of k boot c past x items under_way unfed j in
@@ -97,6 +109,7 @@ module _ (k : EntryKeys) (boot c : ℕ) (past : Past) (x : Connection) (items : 
       record {
         left = down.rest;
         received = subst (Messages (out plain acts c)) down.cut plain_spelled;
+        one_for_one = (hands_down k boot c x.heard x.stand j.ran).others (not_stopped x.stand.ending told.honest);
         nothing_found = told.none;
         honest = told.honest;
         kept = record { more = takes.more; is = takes.first };

@@ -1,5 +1,5 @@
 -- The store's frames that a session heard, beside the messages that the store's bytes spell.
-use Rattle.std.proofs.Common.{◌≡◌, ◌⊎◌, ℕ, ℤ, pos, ◌<◌, ◌≤◌, ◌<ℤ◌, ◌^◌, List, [], ◌∷◌, ◌++◌, Option, Some, None, IfSome, inl, inr, length, refl, sym, ap, subst, ◌∙◌, arith, length-append, append_assoc, append-nil}
+use Rattle.std.proofs.Common.{◌≡◌, ◌⊎◌, ℕ, ℤ, pos, ◌<◌, ◌≤◌, ◌<ℤ◌, ◌^◌, List, [], ◌∷◌, ◌++◌, Option, Some, IfSome, inl, inr, length, refl, sym, ap, subst, ◌∙◌, arith, length-append, append_assoc, append-nil}
 use Rattle.std.proofs.lemmas.Int.{ints}
 use Rattle.std.specs.Int.{w32}
 use Rattle.std.specs.Int.RustNames.{FitsSigned}
@@ -14,7 +14,6 @@ use Rattle.entry_session.specs.Heard.{Heard, from_client, from_store, bad_client
 use Rattle.entry_session.specs.Runs.{store_limit, TurnOf, Ran}
 use Rattle.entry_session.specs.Sides.{bytes_of, IsSide}
 use Rattle.entry_session.specs.Stands.{Stand}
-use Rattle.entry_session.specs.declared.ending.Ending.{Ending}
 use Rattle.entry_session.proofs.Turns.{goes}
 use Rattle.session_law.proofs.Words.{SpellsFront, AreWhole}
 use Rattle.session_law.proofs.Pieces.{spells_front, cut_messages}
@@ -74,22 +73,22 @@ no_message (m ∷ left) rest (body, more, spelled, fits, cut, others) partial = 
 
 -- ---- one side, beside the bytes that were pulled and those that wait
 
-behind_pulled : (bodies : List (List ℕ)) (bad : Option ℤ) (o : Option Ending) (pulled waiting : List ℕ) (side : IsSide store_limit bodies bad o pulled) → pulled ++ waiting ≡ bytes_of bodies ++ (side.rest ++ waiting)
-behind_pulled bodies bad o pulled waiting side = ap (λ l. l ++ waiting) side.whole ∙ append_assoc (bytes_of bodies) side.rest waiting
+behind_pulled : (bodies : List (List ℕ)) (bad : Option ℤ) (ended_here : Type 0) (pulled waiting : List ℕ) (side : IsSide store_limit bodies bad ended_here pulled) → pulled ++ waiting ≡ bytes_of bodies ++ (side.rest ++ waiting)
+behind_pulled bodies bad ended_here pulled waiting side = ap (λ l. l ++ waiting) side.whole ∙ append_assoc (bytes_of bodies) side.rest waiting
 
-pub front_spelled : (told : List Message) (bodies : List (List ℕ)) (bad : Option ℤ) (o : Option Ending) (pulled waiting : List ℕ) → AreWhole bodies → Messages told (pulled ++ waiting) → IsSide store_limit bodies bad o pulled → SpellsFront told bodies
-front_spelled told bodies bad o pulled waiting w h side = spells_front told bodies (pulled ++ waiting) (side.rest ++ waiting) w h (behind_pulled bodies bad o pulled waiting side)
+pub front_spelled : (told : List Message) (bodies : List (List ℕ)) (bad : Option ℤ) (ended_here : Type 0) (pulled waiting : List ℕ) → AreWhole bodies → Messages told (pulled ++ waiting) → IsSide store_limit bodies bad ended_here pulled → SpellsFront told bodies
+front_spelled told bodies bad ended_here pulled waiting w h side = spells_front told bodies (pulled ++ waiting) (side.rest ++ waiting) w h (behind_pulled bodies bad ended_here pulled waiting side)
 
 -- where the session goes on and nothing waits, it heard all messages
-pub all_heard : (told : List Message) (bodies : List (List ℕ)) (bad : Option ℤ) (o : Option Ending) (pulled waiting : List ℕ) → AreWhole bodies → Messages told (pulled ++ waiting) → IsSide store_limit bodies bad o pulled → o ≡ None → waiting ≡ [] → length told ≡ length bodies
-all_heard told bodies bad o pulled waiting w h side going none =
-    let x = cut_messages told bodies (pulled ++ waiting) (side.rest ++ waiting) w h (behind_pulled bodies bad o pulled waiting side) in
+pub all_heard : (told : List Message) (bodies : List (List ℕ)) (bad : Option ℤ) (ended_here : Type 0) (pulled waiting : List ℕ) → AreWhole bodies → Messages told (pulled ++ waiting) → IsSide store_limit bodies bad ended_here pulled → (ended_here → ⊥) → waiting ≡ [] → length told ≡ length bodies
+all_heard told bodies bad ended_here pulled waiting w h side going none =
+    let x = cut_messages told bodies (pulled ++ waiting) (side.rest ++ waiting) w h (behind_pulled bodies bad ended_here pulled waiting side) in
     let nothing : side.rest ++ waiting ≡ side.rest = ap (λ l. side.rest ++ l) none ∙ append-nil side.rest in
     let no_more = no_message x.left side.rest (subst (Messages x.left) nothing x.after) (side.partial going) in
     ap length (x.cut ∙ ap (λ l. x.done ++ l) no_more ∙ append-nil x.done) ∙ x.count
 
 -- a length that was refused is above the limit
-pub honest_length : (told : List Message) (bodies : List (List ℕ)) (bad : Option ℤ) (o : Option Ending) (pulled waiting : List ℕ) → AreWhole bodies → Messages told (pulled ++ waiting) → IsSide store_limit bodies bad o pulled → (z : ℤ) → bad ≡ Some z → pos store_limit <ℤ z
-honest_length told bodies bad o pulled waiting w h side z e =
-    let x = cut_messages told bodies (pulled ++ waiting) (side.rest ++ waiting) w h (behind_pulled bodies bad o pulled waiting side) in
+pub honest_length : (told : List Message) (bodies : List (List ℕ)) (bad : Option ℤ) (ended_here : Type 0) (pulled waiting : List ℕ) → AreWhole bodies → Messages told (pulled ++ waiting) → IsSide store_limit bodies bad ended_here pulled → (z : ℤ) → bad ≡ Some z → pos store_limit <ℤ z
+honest_length told bodies bad ended_here pulled waiting w h side z e =
+    let x = cut_messages told bodies (pulled ++ waiting) (side.rest ++ waiting) w h (behind_pulled bodies bad ended_here pulled waiting side) in
     refused_length x.left side.rest waiting z x.after (subst (λ (v : Option ℤ). IfSome v (λ y. IsTooLong store_limit side.rest y)) e side.named)

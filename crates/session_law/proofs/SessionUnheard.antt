@@ -6,7 +6,7 @@ use Rattle.tree_server.specs.Messages.{Messages}
 use Rattle.entry_session.specs.ClientTurns.{ClientTurn, malformed_frame, full_queue, spent_ivs, handed_up}
 use Rattle.entry_session.specs.Heard.{Heard, from_client, from_store, bad_client, bad_store, given, store_frames, bad_of_store}
 use Rattle.entry_session.specs.Runs.{store_limit, TurnOf, Ran}
-use Rattle.entry_session.specs.Sides.{IsSide}
+use Rattle.entry_session.specs.Sides.{IsSide, EndsAtStore}
 use Rattle.entry_session.specs.Stands.{Stand, fresh, ends}
 use Rattle.entry_session.specs.declared.ending.Ending.{Ending}
 use Rattle.entry_session.specs.declared.ending.Ending.TheVariants as endings
@@ -76,8 +76,8 @@ nothing_spelled [] h = refl
 nothing_spelled (b ∷ bs) h = absurd h
 
 -- from the bytes of the store's side
-pub unheard : (k : EntryKeys) (boot c : ℕ) (told : List Message) (hs : List Heard) (s : Stand) (pulled waiting : List ℕ) → told ≡ [] → Ran k boot c hs s → Messages told (pulled ++ waiting) → IsSide store_limit (store_frames hs) (bad_of_store hs) s.ending pulled → Unheard s
+pub unheard : (k : EntryKeys) (boot c : ℕ) (told : List Message) (hs : List Heard) (s : Stand) (pulled waiting : List ℕ) → told ≡ [] → Ran k boot c hs s → Messages told (pulled ++ waiting) → IsSide store_limit (store_frames hs) (bad_of_store hs) (EndsAtStore s.ending hs) pulled → Unheard s
 unheard k boot c told hs s pulled waiting is ran spelled side =
     let whole = whole_frames k boot c hs s ran in
-    let front = front_spelled told (store_frames hs) (bad_of_store hs) s.ending pulled waiting whole spelled side in
-    unheard_session k boot c hs s (nothing_spelled (store_frames hs) (subst (λ (l : List Message). SpellsFront l (store_frames hs)) is front)) (honest_length told (store_frames hs) (bad_of_store hs) s.ending pulled waiting whole spelled side) ran
+    let front = front_spelled told (store_frames hs) (bad_of_store hs) (EndsAtStore s.ending hs) pulled waiting whole spelled side in
+    unheard_session k boot c hs s (nothing_spelled (store_frames hs) (subst (λ (l : List Message). SpellsFront l (store_frames hs)) is front)) (honest_length told (store_frames hs) (bad_of_store hs) (EndsAtStore s.ending hs) pulled waiting whole spelled side) ran

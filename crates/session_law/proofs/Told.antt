@@ -1,6 +1,5 @@
 -- What a session of an orderly connection handed down.
-use Rattle.std.proofs.Common.{◌≡◌, ℕ, suc, ℤ, pos, List, [], ◌∷◌, ◌++◌, Option, Some, None, length, refl, sym, ap, subst, ◌∙◌, arith, length-append, append-nil}
-use Rattle.std.specs.Prelude.{◌<ℤ◌}
+use Rattle.std.proofs.Common.{◌≡◌, ℕ, List, [], ◌∷◌, ◌++◌, Some, length, refl, sym, ap, subst, ◌∙◌}
 use Rattle.path_seal.specs.Sealed.{AreKeys}
 use Rattle.payload_seal.specs.declared.keys.EntryKeys.{EntryKeys}
 use Rattle.request_queue.specs.declared.asked.Asked.TheVariants as asks
@@ -16,16 +15,13 @@ use Rattle.tree_server.specs.Messages.{SpellsMessage, Messages}
 use Rattle.tree_server.specs.Out.{out}
 use Rattle.tree_server.proofs.Zipping.{Zips}
 use Rattle.sealed_machine.specs.Runs.{Question, Talks, silent, told_event, told_reply, told_session, all_asked, HasNoConnected}
-use Rattle.entry_session.specs.declared.ending.Ending.{Ending}
 use Rattle.entry_session.specs.declared.ending.Ending.TheVariants as endings
-use Rattle.entry_session.specs.ClientTurns.{ClientTurn, malformed_frame, full_queue, spent_ivs, handed_up}
-use Rattle.entry_session.specs.Heard.{Heard, from_client, from_store, bad_client, bad_store, given, store_frames, bad_of_store}
-use Rattle.entry_session.specs.Runs.{TurnOf, Ran, store_limit, IsGivenEnding}
-use Rattle.entry_session.specs.Sides.{IsSide}
-use Rattle.entry_session.specs.Stands.{Stand, fresh, ends}
-use Rattle.entry_session.proofs.Turns.{goes, some_none}
+use Rattle.entry_session.specs.Heard.{Heard, store_frames, bad_of_store}
+use Rattle.entry_session.specs.Runs.{Ran, store_limit}
+use Rattle.entry_session.specs.Sides.{IsSide, EndsAtStore}
+use Rattle.entry_session.specs.Stands.{Stand}
 use Rattle.session_law.specs.Law.{AreBehind, IsHonestEnd}
-use Rattle.session_law.proofs.Words.{SpellsFront, IsBegun, IsOrderly, unheard, heard}
+use Rattle.session_law.proofs.Words.{IsOrderly, unheard, heard}
 use Rattle.session_law.proofs.SessionStands.{Reached}
 use Rattle.session_law.proofs.SessionUnheard.{Unheard, unheard as unheard_session}
 use Rattle.session_law.proofs.OneSession.{reached, none_left}
@@ -138,7 +134,7 @@ reached_told k r qs ms ns all told hs s e f x = record {
 
 -- what each session of an orderly connection was told, over what the store told and what of its bytes was pulled
 pub orderly_told : (k : EntryKeys) (boot c : ℕ) → AreKeys k.names → (acts : List Act) (told : List Message) (hs : List Heard) (s : Stand) (pulled waiting : List ℕ) → Talks k (all_asked c start acts) (out plain acts c) told → Ran k boot c hs s → Messages told (pulled ++ waiting)
-    → IsSide store_limit (store_frames hs) (bad_of_store hs) s.ending pulled → AreBehind told hs → IsOrderly c acts s.items → IsTold k (all_asked c start acts) (out plain acts c) told hs s
+    → IsSide store_limit (store_frames hs) (bad_of_store hs) (EndsAtStore s.ending hs) pulled → AreBehind told hs → IsOrderly c acts s.items → IsTold k (all_asked c start acts) (out plain acts c) told hs s
 orderly_told k boot c w acts told hs s pulled waiting t ran spelled side behind (unheard e) =
     unheard_told k (all_asked c start acts) (out plain acts c) told hs s e (unheard_session k boot c told hs s pulled waiting (told_nothing k _ _ told t e) ran spelled side)
 orderly_told k boot c w acts told hs s pulled waiting t ran spelled side behind (heard r ms e quiet begun) =

@@ -1,5 +1,5 @@
 -- What is handed up are whole frames: a body of a client's frame becomes one of at most 30 times its bytes.
-use Rattle.std.proofs.Common.{◌≡◌, ℕ, zero, suc, ℤ, ◌+◌, ◌≤◌, ◌<◌, ◌^◌, ◌*◌, Bool, true, false, List, [], ◌∷◌, length, refl, sym, ap, subst, arith}
+use Rattle.std.proofs.Common.{◌≡◌, ℕ, ℤ, ◌≤◌, ◌<◌, ◌^◌, ◌*◌, Bool, true, false, List, [], ◌∷◌, length, ap, subst, arith}
 use Rattle.jute_core.specs.Frames.{FitsFrame}
 use Rattle.payload_seal.specs.Ivs.{Ivs}
 use Rattle.payload_seal.specs.declared.keys.EntryKeys.{EntryKeys}
@@ -17,9 +17,9 @@ use Rattle.entry_session.specs.Heard.{Heard}
 use Rattle.entry_session.specs.Runs.{Ran}
 use Rattle.entry_session.specs.Stands.{Stand}
 use Rattle.entry_session.specs.Veiled.{SpellsItems}
-use Rattle.entry_session.proofs.HandedUp.{VeilsUpTo, HandedUp, handed}
+use Rattle.entry_session.proofs.HandedUp.{VeilsUpTo, handed}
 use Rattle.entry_session.proofs.OneItem.{one_body}
-use Rattle.entry_session.proofs.SentItems.{AreWithin, IsSent, items_sent}
+use Rattle.entry_session.proofs.SentItems.{AreWithin, items_sent}
 use Rattle.session_law.proofs.Words.{AreWhole}
 use Rattle.session_law.proofs.Filling.{ivs_twelve}
 
@@ -36,7 +36,6 @@ item_fits k s n first (items.Asks a) v b u h spelled out within = same_fits b u 
   where
     same_fits : (b u : List ℕ) → b ≡ u → length b ≤ client_limit → FitsFrame u
     same_fits b u e l = omega (arith, l, ap length e)
-
 item_fits k s n true (items.Requests xid r) v b u h spelled out within = absurd spelled
 item_fits k s n false (items.Requests xid r) (items.Asks a) b u h spelled out within = absurd h
 item_fits k s n false (items.Requests xid r) (items.Requests number v) b u h spelled out within = request_fits k s n xid number r v b u h.0 h.1 spelled out within

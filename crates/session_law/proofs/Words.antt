@@ -1,5 +1,5 @@
 -- What the proof says of one connection: the messages that frames spell, and what the requests of a connection ask.
-use Rattle.std.specs.Prelude.{◌≡◌, ◌≢◌, ℕ, ℤ, negsuc, List, [], ◌∷◌, ◌++◌, Option, Some, None}
+use Rattle.std.specs.Prelude.{◌≡◌, ◌≢◌, ℕ, negsuc, List, [], ◌∷◌, ◌++◌}
 use Rattle.jute_core.specs.Frames.{FitsFrame}
 use Rattle.zk_records.specs.declared.connect.ConnectResponse.{ConnectResponse}
 use Rattle.zk_messages.specs.declared.request.Item.{Item}

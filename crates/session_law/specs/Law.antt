@@ -1,5 +1,5 @@
 -- The law over many sessions: over one store that follows the machine, and what the session of each connection heard.
-use Rattle.std.specs.Prelude.{◌≡◌, ◌<◌, ◌<ℤ◌, ◌^◌, ℕ, ℤ, suc, pos, List, [], ◌∷◌, ◌++◌, length, Bool, true, false, Option, Some, None, All}
+use Rattle.std.specs.Prelude.{◌≡◌, ◌<◌, ◌<ℤ◌, ℕ, ℤ, suc, pos, List, [], ◌∷◌, ◌++◌, length, true, false, Option, Some, None, All}
 use Rattle.jute_core.specs.Frames.{Stream}
 use Rattle.path_seal.specs.Sealed.{AreKeys}
 use Rattle.payload_seal.specs.declared.keys.EntryKeys.{EntryKeys}
@@ -21,26 +21,25 @@ use Rattle.tree_server.specs.Out.{out}
 use Rattle.tree_server.specs.Orders.{Legal}
 use Rattle.tree_server.specs.Follows.{Past, Follows}
 use Rattle.tree_server.specs.declared.entry.Entry.{Entry}
-use Rattle.tree_server.specs.declared.entry.Entry.TheVariants.{Connect, Take, Lost, Expire}
+use Rattle.tree_server.specs.declared.entry.Entry.TheVariants.{Take}
 use Rattle.entry_session.specs.Heard.{Heard, from_client, from_store, bad_client, bad_store, given, client_frames, store_frames, bad_of_client, bad_of_store}
 use Rattle.entry_session.specs.Stands.{Stand}
 use Rattle.entry_session.specs.Runs.{Ran, store_limit, IsGivenEnding}
 use Rattle.entry_session.specs.Veiled.{VeilsFrom, SpellsItems}
-use Rattle.entry_session.specs.Sides.{IsSide, bytes_of}
+use Rattle.entry_session.specs.Sides.{IsSide, EndsAtClient, EndsAtStore, bytes_of}
 use Rattle.entry_session.specs.declared.ending.Ending.{Ending}
 use Rattle.entry_session.specs.declared.ending.Ending.TheVariants as endings
 use Rattle.tree_server.specs.Fill.{Fills, items_in, IsFront, EndsInClose}
 
 -- ---- what is given
 
--- One connection between a client and the store: the bytes that its client gave, what its session heard and where that led, the bytes
--- that the store was fed, and whether the store's side has an ending.
+-- One connection between a client and the store: the bytes that its client gave, what its session heard and where that led, and the bytes
+-- that the store was fed. The client received exactly the frames that the session handed down.
 pub record Connection : Type 0 where
   pub sent : List ℕ
   pub heard : List Heard
   pub stand : Stand
   pub fed : List ℕ
-  pub is_over : Bool
 
 -- an event answers nothing
 unfoldable pub answers : List Message → ℕ
@@ -69,18 +68,18 @@ pub record IsJoined (k : EntryKeys) (boot c : ℕ) (past : Past) (x : Connection
   pub is_sent : Sent x.sent items
   pub taken : List ℕ
   pub piped : x.sent ≡ taken ++ under_way
-  pub client_side : IsSide client_limit (client_frames x.heard) (bad_of_client x.heard) x.stand.ending taken
+  pub client_side : IsSide client_limit (client_frames x.heard) (bad_of_client x.heard) (EndsAtClient x.stand.ending x.heard) taken
   -- the store's bytes are those pulled
-  pub store_side : IsSide store_limit (store_frames x.heard) (bad_of_store x.heard) x.stand.ending (past.pulled c)
+  pub store_side : IsSide store_limit (store_frames x.heard) (bad_of_store x.heard) (EndsAtStore x.stand.ending x.heard) (past.pulled c)
   -- the store was fed the first of what was handed up
   pub up : bytes_of x.stand.up ≡ x.fed ++ unfed
-  -- its entries of the connection hold what the first whole frames of these bytes spell, and all of them while its side goes on
+  -- its entries of the connection hold what the first whole frames of these bytes spell, and all of them while its side is not over
   pub bodies : List (List ℕ)
   pub more : List (List ℕ)
   pub partial : List ℕ
   pub stream : Stream (bodies ++ more) partial x.fed
   pub spelled : SpellsItems true (items_in c past.order) bodies
-  pub all_taken : x.is_over ≡ false → more ≡ []
+  pub all_taken : past.over c ≡ false → more ≡ []
   pub behind : AreBehind (past.told c) x.heard
 
 -- ---- what follows
@@ -110,9 +109,11 @@ VeilsEntry k e f = e ≡ f
 
 -- What connection c comes to, where `plain_order` is the order filled with what the clients sent, and `acts` what it is to the plain machine.
 pub record IsServed (k : EntryKeys) (boot c : ℕ) (past : Past) (plain_order : List Entry) (acts : List Act) (x : Connection) (items : List Item) (under_way unfed : List ℕ) : Type 0 where
-  -- the client received the first of the bytes that the plain machine sends it, and nothing was found wrong with a reply
+  -- The client received the first of the bytes that the plain machine sends it, one frame for each whole frame of the store that came to its
+  -- session, and nothing was found wrong with a reply.
   pub left : List ℕ
   pub received : Messages (out plain acts c) (bytes_of x.stand.down ++ left)
+  pub one_for_one : length x.stand.down ≡ length (store_frames x.heard)
   pub nothing_found : x.stand.findings ≡ []
   pub honest : IsHonestEnd x.stand.ending
   -- what was handed up are the first items that the client sent, veiled with IVs counted from 0
@@ -124,10 +125,10 @@ pub record IsServed (k : EntryKeys) (boot c : ℕ) (past : Past) (plain_order : 
   -- the store's entries hold the first of these, and the filled ones the first items that the client sent
   pub taken_up : IsFront (items_in c past.order) veiled
   pub filled_with : IsFront (items_in c plain_order) items
-  -- all of it, once nothing waits and nothing is under way
+  -- all of it, once nothing waits, nothing is under way, all was fed, and the store's side goes on
   pub all_received : x.stand.ending ≡ None → past.waiting c ≡ [] → left ≡ []
   pub all_handed_up : x.stand.ending ≡ None → under_way ≡ [] → x.stand.items ≡ items
-  pub all_taken : x.stand.ending ≡ None → under_way ≡ [] → unfed ≡ [] → x.is_over ≡ false → items_in c plain_order ≡ items
+  pub all_taken : x.stand.ending ≡ None → under_way ≡ [] → unfed ≡ [] → past.over c ≡ false → items_in c plain_order ≡ items
   -- and where the session was closed, nothing more comes
   pub closed : x.stand.ending ≡ Some endings.Closed → (left ≡ []) × EndsInClose (items_in c plain_order)
 
@@ -141,7 +142,8 @@ pub record Headline (k : EntryKeys) (boot : ℕ) (passwords : ℤ → List ℕ) 
   pub veils : Zips (VeilsEntry k) plain_order past.order
   pub served : (c : ℕ) → IsServed k boot c past plain_order acts (x c) (items c) (under_way c) (unfed c)
 
--- For every store that follows the machine with the names of a counter enclave under the same keys, and every connection joined to it.
+-- For every store that follows the machine with the names of a counter enclave under the same keys, and every connection joined to it. It
+-- speaks of one moment, and holds at each.
 abbrev pub HoldsOverSessions : Type 0
 HoldsOverSessions = (k : EntryKeys) (boot : ℕ) (naming : Naming) (passwords : ℤ → List ℕ) (past : Past) (x : ℕ → Connection) (items : ℕ → List Item) (under_way unfed : ℕ → List ℕ)
     → AreKeys k.names → 0 < length k.payloads → IsNaming (IsSealedName k.names) naming → Follows naming passwords past

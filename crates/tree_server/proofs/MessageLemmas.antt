@@ -1,5 +1,5 @@
 -- What writing a message appends.
-use Rattle.std.proofs.Common.{◌≡◌, ℕ, List, Result, Ok, Err}
+use Rattle.std.proofs.Common.{ℕ, List, Result, Ok, Err}
 use Rattle.std.specs.Prelude.{OnOk}
 use Rattle.jute_core.specs.Jute.{Jute, Value, Spells}
 use Rattle.jute_core.specs.Position.{Appends}

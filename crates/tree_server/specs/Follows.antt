@@ -1,5 +1,5 @@
 -- A store that follows the machine.
-use Rattle.std.specs.Prelude.{◌≡◌, ℕ, ℤ, List, [], ◌++◌, Some}
+use Rattle.std.specs.Prelude.{◌≡◌, ◌⊎◌, ℕ, ℤ, List, [], ◌∷◌, ◌++◌, Bool, true, false, Some}
 use Rattle.zk_messages.specs.declared.reply.Outcome.{Outcome}
 use Rattle.zk_messages.specs.declared.reply.Outcome.TheVariants as outcomes
 use Rattle.zk_messages.specs.declared.reply.Reply.{Reply}
@@ -7,11 +7,12 @@ use Rattle.tree_state.specs.declared.message.Message.{Message}
 use Rattle.tree_state.specs.declared.message.Message.TheVariants as messages
 use Rattle.tree_state.specs.Shuffles.{Shuffles}
 use Rattle.tree_state.specs.Changes.{Naming}
-use Rattle.tree_state.specs.Step.{Act}
+use Rattle.tree_state.specs.State.{State, start}
+use Rattle.tree_state.specs.Step.{Act, step}
 use Rattle.tree_server.specs.Zips.{Zips}
 use Rattle.tree_server.specs.Messages.{Messages}
 use Rattle.tree_server.specs.Out.{out}
-use Rattle.tree_server.specs.Orders.{Legal}
+use Rattle.tree_server.specs.Orders.{HasNoConnect, HasSession, Legal}
 use Rattle.tree_server.specs.declared.entry.Entry.{Entry}
 
 -- what the machine answers, and what a store may tell in its place: the names of a child list in any order
@@ -36,22 +37,29 @@ abbrev pub Shown : List Message → List Message → Type 0
 Shown sent told = Zips ShowsMessage sent told
 
 -- What one store went through: the order in which it took what it was sent, what these entries are to the machine, and for each
--- connection the messages that it told, the bytes of them that were pulled, and those that wait.
+-- connection the messages that it told, the bytes of them that were pulled, those that wait, and whether its side of it is over.
 pub record Past : Type 0 where
   pub order : List Entry
   pub acts : List Act
   pub told : ℕ → List Message
   pub pulled : ℕ → List ℕ
   pub waiting : ℕ → List ℕ
+  pub over : ℕ → Bool
+
+-- the state after these acts
+unfoldable pub after_all : Naming → State → List Act → State
+after_all naming s [] = s
+after_all naming s (act ∷ acts) = after_all naming (step naming s act).state acts
 
 -- Its order is legal with its own names, and to each connection the bytes pulled and those that wait are what its machine sends,
--- where the names of a child list may stand in any order.
+-- where the names of a child list may stand in any order. A connection whose side is not over has a session, or has not connected yet.
 pub record Follows (naming : Naming) (passwords : ℤ → List ℕ) (past : Past) : Type 0 where
   pub legal : Legal naming passwords past.order past.acts
   pub shown : (c : ℕ) → Shown (out naming past.acts c) (past.told c)
   pub spelled : (c : ℕ) → Messages (past.told c) (past.pulled c ++ past.waiting c)
+  pub goes_on : (c : ℕ) → past.over c ≡ false → HasNoConnect c past.order ⊎ HasSession (after_all naming start past.acts) c
 
--- A later past of the same store: what it took and told before stays, and what is new stands at the ends.
+-- A later past of the same store: what it took and told before stays, what is new stands at the ends, and what is over stays so.
 pub record Later (old new : Past) : Type 0 where
   pub entries : List Entry
   pub order : new.order ≡ old.order ++ entries
@@ -61,3 +69,4 @@ pub record Later (old new : Past) : Type 0 where
   pub told : (c : ℕ) → new.told c ≡ old.told c ++ more_told c
   pub more_pulled : ℕ → List ℕ
   pub pulled : (c : ℕ) → new.pulled c ≡ old.pulled c ++ more_pulled c
+  pub over : (c : ℕ) → old.over c ≡ true → new.over c ≡ true

@@ -31,9 +31,15 @@ pub enum Entry {
         now: i64,
     },
     /// The loss of a connection that had a session. The session stays.
-    Lost { connection: u32 },
+    Lost {
+        connection: u32,
+    },
     /// The end of a session that was not heard in time.
-    Expire { session: i64, zxid: i64, now: i64 },
+    Expire {
+        session: i64,
+        zxid: i64,
+        now: i64,
+    },
 }
 
 /// A list of entries.

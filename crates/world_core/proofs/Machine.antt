@@ -1,6 +1,6 @@
 -- A run of the plain machine over items of the first form.
-use Rattle.std.proofs.Common.{◌≡◌, ℕ, ℤ, pos, List, [], ◌∷◌, ◌++◌, length, false, refl, inr, ◌∙◌, sym, ap, subst, arith}
-use Rattle.std.specs.Prelude.{All, ◌≤ℤ◌, ◌==◌, codes}
+use Rattle.std.proofs.Common.{◌≡◌, ℕ, ℤ, pos, List, [], ◌∷◌, ◌++◌, length, false, refl, inr, sym, ap, subst, arith}
+use Rattle.std.specs.Prelude.{All, ◌≤ℤ◌, codes}
 use Rattle.std.proofs.lemmas.Int.{ints}
 use Rattle.std.proofs.lemmas.List.Elements.{All-nil, All-cons}
 use Rattle.zk_records.specs.declared.connect.ConnectRequest.{ConnectRequest}
