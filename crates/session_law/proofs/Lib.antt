@@ -19,3 +19,4 @@ pub mod Told
 pub mod Joined
 pub mod Served
 pub mod Holds
+pub mod GoingOn

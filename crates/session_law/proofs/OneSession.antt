@@ -145,8 +145,3 @@ pub none_left : (k : EntryKeys) (r : ConnectResponse) (qs : List Question) (ms n
 none_left k r qs ms ns hs s x all =
     let none : length x.left ≡ 0 = omega (arith, ap length x.told_is, length-append x.done x.left, x.come, all) in
     (empty_left x.left none, empty_left x.plain_left (as_long k x.open_ x.plain_left x.left x.talks ∙ none))
-
--- so it handed down all of the plain messages
-pub all_down : (k : EntryKeys) (r : ConnectResponse) (qs : List Question) (ms ns : List Message) (hs : List Heard) (s : Stand) (x : Reached k r qs ms ns hs s) → x.plain_left ≡ [] → Zips SpellsMessage (messages.Connected r ∷ ms) s.down
-all_down k r qs ms ns hs s x none =
-    subst (λ (l : List Message). Zips SpellsMessage l s.down) (sym (x.plain_is ∙ ap (λ (l : List Message). x.plain_done ++ l) none ∙ append-nil x.plain_done)) x.down

@@ -1,0 +1,30 @@
+-- What stays while a store goes on.
+use Rattle.std.proofs.Common.{◌≡◌, ℕ, suc, ◌≤◌, ◌<◌, List, [], ◌∷◌, ◌++◌, length, refl, sym, ap, subst, ◌∙◌, arith, length-append}
+use Rattle.tree_state.specs.declared.message.Message.{Message}
+use Rattle.entry_session.specs.Heard.{Heard, from_client, from_store, bad_client, bad_store, given, client_frames, store_frames}
+use Rattle.session_law.specs.Law.{IsAnswer, answers, AreBehind}
+use Rattle.session_law.specs.Laws.{StaysBehind}
+
+-- an item of a longer list that stands within the shorter one
+within : {A : Type 0} (xs more done left : List A) (m : A) → xs ++ more ≡ done ++ m ∷ left → length done < length xs → (others : List A) × (xs ≡ done ++ m ∷ others)
+within [] more done left m e l = absurd (omega (arith, l))
+within (x ∷ xs) more [] left m e l = (xs, (let first : x ≡ m = cc in λ i. first i ∷ xs))
+within (x ∷ xs) more (d ∷ done) left m e l =
+    let rest : xs ++ more ≡ done ++ m ∷ left = cc in
+    let first : x ≡ d = cc in
+    let w = within xs more done left m rest (omega (arith, l)) in
+    (w.0, (λ i. first i ∷ w.1 i))
+
+pub stays_behind : StaysBehind
+unfolding AreBehind store_frames
+stays_behind told more [] l h = tt
+stays_behind told more (from_store body ∷ hs) l h = (
+  (λ done left m e count answer.
+      let w = within told more done left m e (omega (arith, l, count, length-append (store_frames hs) (body ∷ []))) in
+      h.0 done w.0 m w.1 count answer),
+  stays_behind told more hs (omega (arith, l, length-append (store_frames hs) (body ∷ []))) h.1,
+)
+stays_behind told more (from_client body ∷ hs) l h = stays_behind told more hs l h
+stays_behind told more (bad_client z ∷ hs) l h = stays_behind told more hs l h
+stays_behind told more (bad_store z ∷ hs) l h = stays_behind told more hs l h
+stays_behind told more (given e ∷ hs) l h = stays_behind told more hs l h
