@@ -1,8 +1,7 @@
 -- What stays while a store goes on.
-use Rattle.std.proofs.Common.{◌≡◌, ℕ, suc, ◌≤◌, ◌<◌, List, [], ◌∷◌, ◌++◌, length, refl, sym, ap, subst, ◌∙◌, arith, length-append}
-use Rattle.tree_state.specs.declared.message.Message.{Message}
-use Rattle.entry_session.specs.Heard.{Heard, from_client, from_store, bad_client, bad_store, given, client_frames, store_frames}
-use Rattle.session_law.specs.Law.{IsAnswer, answers, AreBehind}
+use Rattle.std.proofs.Common.{◌≡◌, ◌<◌, List, [], ◌∷◌, ◌++◌, length, arith, length-append}
+use Rattle.entry_session.specs.Heard.{from_client, from_store, bad_client, bad_store, given, store_frames}
+use Rattle.session_law.specs.Law.{AreBehind}
 use Rattle.session_law.specs.Laws.{StaysBehind}
 
 -- an item of a longer list that stands within the shorter one

@@ -20,3 +20,4 @@ pub mod Joined
 pub mod Served
 pub mod Holds
 pub mod GoingOn
+pub mod AnswersEach

@@ -1,6 +1,7 @@
-//! The law.
+//! The law, and two rules by which a program meets one of its premises: that answers come after what they answer.
 
 ghost use Rattle.session_law.specs.Law.{HoldsOverSessions};
+ghost use Rattle.session_law.specs.Laws.{AnswersEachEntry, StaysBehind};
 
 /// The law over many sessions. Over a store that follows the plain machine under the names of a counter enclave, and for every connection that is
 /// joined to it:
@@ -11,4 +12,14 @@ ghost use Rattle.session_law.specs.Law.{HoldsOverSessions};
 /// - nothing was found wrong with a reply, and a session ended at a limit, at its client's or its caller's doing, or at its close alone.
 pub fn holds_over_sessions()
     ensures { HoldsOverSessions }
+{}
+
+/// Answers that came after what they answer did so, whatever the store tells later.
+pub fn stays_behind()
+    ensures { StaysBehind }
+{}
+
+/// A store that follows the plain machine tells a connection one answer for each of its entries.
+pub fn answers_each_entry()
+    ensures { AnswersEachEntry }
 {}
