@@ -16,6 +16,8 @@
 #![tactic(auto)]
 
 mod laws;
+#[cfg(test)]
+mod tests;
 
 pub use laws::{
     fits_plain, keeps_what_is_asked, sealed_naming, stays_in_step, veils_what_is_asked,
