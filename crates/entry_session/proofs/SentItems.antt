@@ -16,7 +16,7 @@ use Rattle.entry_session.specs.Stands.{Stand, fresh}
 use Rattle.entry_session.specs.Veiled.{SpellsItems}
 use Rattle.entry_session.proofs.HandedUp.{spells_one}
 use Rattle.entry_session.proofs.OneItem.{one_item}
-use Rattle.entry_session.proofs.Turns.{SameUp, goes, some_none, end_up, store_up}
+use Rattle.entry_session.proofs.Turns.{SameUp, goes, end_up, store_up}
 
 -- each is within the limit of a client
 unfoldable pub AreWithin : List (List ℕ) → Type 0
@@ -34,7 +34,12 @@ pub record IsSent (hs : List Heard) (s : Stand) : Type 0 where
   pub front : client_frames hs ≡ bodies ++ rest
   pub spelled : SpellsItems true s.items bodies
   pub within : AreWithin bodies
-  pub all : s.ending ≡ None → rest ≡ []
+  pub all : (EndsAtClient s.ending hs → ⊥) → rest ≡ []
+
+not_at_client : (ending : Option Ending) (hs : List Heard) → ending ≡ None → EndsAtClient ending hs → ⊥
+unfolding EndsAtClient
+not_at_client None hs e h = h
+not_at_client (Some a) hs e h = absurd cc
 
 first_kind : (is : List Item) (i : Item) (b : List ℕ) → IsItem (is_first is) i b → IsItem (cond (is_first is) true false) i b
 first_kind [] i b h = h
@@ -46,17 +51,17 @@ behind hs old body h = ap (λ l. l ++ body ∷ []) h.front ∙ append_assoc h.bo
 
 -- one frame of the client more
 client_sent : (k : EntryKeys) (boot c : ℕ) (hs : List Heard) (old : Stand) (body : List ℕ) (new : Stand) → length body ≤ client_limit → old.ending ≡ None → IsSent hs old → ClientTurn k boot c old body new → IsSent (from_client body ∷ hs) new
-unfolding client_frames
-client_sent k boot c hs old body new l going h (malformed_frame refusal f) = record { bodies = h.bodies; rest = h.rest ++ body ∷ []; front = behind hs old body h; spelled = h.spelled; within = h.within; all = λ e. absurd (some_none _ e) }
-client_sent k boot c hs old body new l going h (full_queue i f g) = record { bodies = h.bodies; rest = h.rest ++ body ∷ []; front = behind hs old body h; spelled = h.spelled; within = h.within; all = λ e. absurd (some_none _ e) }
-client_sent k boot c hs old body new l going h (spent_ivs i n f g p m) = record { bodies = h.bodies; rest = h.rest ++ body ∷ []; front = behind hs old body h; spelled = h.spelled; within = h.within; all = λ e. absurd (some_none _ e) }
+unfolding client_frames EndsAtClient
+client_sent k boot c hs old body new l going h (malformed_frame refusal f) = record { bodies = h.bodies; rest = h.rest ++ body ∷ []; front = behind hs old body h; spelled = h.spelled; within = h.within; all = λ goes_on. absurd (goes_on tt) }
+client_sent k boot c hs old body new l going h (full_queue i f g) = record { bodies = h.bodies; rest = h.rest ++ body ∷ []; front = behind hs old body h; spelled = h.spelled; within = h.within; all = λ goes_on. absurd (goes_on tt) }
+client_sent k boot c hs old body new l going h (spent_ivs i n f g p m) = record { bodies = h.bodies; rest = h.rest ++ body ∷ []; front = behind hs old body h; spelled = h.spelled; within = h.within; all = λ goes_on. absurd (goes_on tt) }
 client_sent k boot c hs old body new l going h (handed_up i v n out f g p m q o) = record {
   bodies = h.bodies ++ body ∷ [];
   rest = [];
-  front = ap (λ l. l ++ body ∷ []) (h.front ∙ ap (λ l. h.bodies ++ l) (h.all going) ∙ append-nil h.bodies) ∙ sym (append-nil (h.bodies ++ body ∷ []));
+  front = ap (λ l. l ++ body ∷ []) (h.front ∙ ap (λ l. h.bodies ++ l) (h.all (not_at_client old.ending hs going)) ∙ append-nil h.bodies) ∙ sym (append-nil (h.bodies ++ body ∷ []));
   spelled = spells_one true old.items h.bodies i body h.spelled (first_kind old.items i body f);
   within = one_within h.bodies body h.within l;
-  all = λ e. refl;
+  all = λ goes_on. refl;
 }
 
 -- a turn that is none of the client's
@@ -67,7 +72,7 @@ other_sent hs h old new same up going x = record {
   front = same ∙ x.front;
   spelled = subst (λ (l : List Item). SpellsItems true l x.bodies) (sym up.items_are) x.spelled;
   within = x.within;
-  all = λ e. x.all going;
+  all = λ goes_on. x.all (not_at_client old.ending hs going);
 }
 
 turn_sent : (k : EntryKeys) (boot c : ℕ) (hs : List Heard) (old : Stand) (h : Heard) (new : Stand) → old.ending ≡ None → TurnOf k boot c old h new → IsSent hs old → IsSent (h ∷ hs) new
@@ -144,11 +149,6 @@ ends_alike (i ∷ items) rest h = h
 nothing_after : (rest : List (List ℕ)) (partial under_way : List ℕ) → rest ≡ [] → under_way ≡ [] → bytes_of rest ++ (partial ++ under_way) ≡ partial
 nothing_after rest partial under_way e f = ap (λ l. bytes_of l ++ (partial ++ under_way)) e ∙ ap (λ l. partial ++ l) f ∙ append-nil partial
 
-not_at_client : (ending : Option Ending) (hs : List Heard) → ending ≡ None → EndsAtClient ending hs → ⊥
-unfolding EndsAtClient
-not_at_client None hs e h = h
-not_at_client (Some a) hs e h = absurd cc
-
 pub takes_what_was_sent : TakesWhatWasSent
 takes_what_was_sent k boot c hs s taken under_way items ran side sent =
     let x = items_sent k boot c hs s ran in
@@ -160,6 +160,6 @@ takes_what_was_sent k boot c hs s taken under_way items ran side sent =
       first = b.front;
       all = λ going none.
           let tail = nothing_after x.rest side.rest under_way (x.all going) none in
-          let no_more = none_there b.kind b.more b.rest side.rest (side.partial (not_at_client s.ending hs going)) (subst (λ (l : List ℕ). Items b.kind b.more b.rest l) tail b.spelled) in
+          let no_more = none_there b.kind b.more b.rest side.rest (side.partial going) (subst (λ (l : List ℕ). Items b.kind b.more b.rest l) tail b.spelled) in
           sym (b.front ∙ ap (λ l. s.items ++ l) no_more ∙ append-nil s.items);
     }

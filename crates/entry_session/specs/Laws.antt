@@ -1,5 +1,5 @@
 -- What holds of every session.
-use Rattle.std.specs.Prelude.{◌≡◌, ◌<◌, ◌^◌, ℕ, suc, List, [], ◌++◌, length, Option, Some, None}
+use Rattle.std.specs.Prelude.{◌≡◌, ◌<◌, ◌^◌, ℕ, suc, List, [], ◌++◌, length, Option, Some}
 use Rattle.path_seal.specs.Sealed.{AreKeys}
 use Rattle.payload_seal.specs.Ivs.{payload_iv}
 use Rattle.payload_seal.specs.declared.keys.EntryKeys.{EntryKeys}
@@ -44,13 +44,13 @@ HaveOwnIvs = (k : EntryKeys) (boot : ℕ) (hs : ℕ → List Heard) (stand : ℕ
     → (c d i j : ℕ) → c < 2 ^ 32 → d < 2 ^ 32 → i < (stand c).sealed → j < (stand d).sealed
     → payload_iv (greatest_epoch k) boot c i ≡ payload_iv (greatest_epoch k) boot d j → (c ≡ d) × (i ≡ j)
 
--- what a session kept are the first of these items, and all of them where it goes on and nothing is under way to it
-pub record TakesFirst (s : Stand) (under_way : List ℕ) (items : List Item) : Type 0 where
+-- what a session kept are the first of these items, and all of them where nothing is under way to it and it did not end at a frame of its client
+pub record TakesFirst (hs : List Heard) (s : Stand) (under_way : List ℕ) (items : List Item) : Type 0 where
   pub more : List Item
   pub first : items ≡ s.items ++ more
-  pub all : s.ending ≡ None → under_way ≡ [] → s.items ≡ items
+  pub all : (EndsAtClient s.ending hs → ⊥) → under_way ≡ [] → s.items ≡ items
 
 -- so it is with the items that a client sent, of whose bytes the session took the first and others are under way
 abbrev pub TakesWhatWasSent : Type 0
 TakesWhatWasSent = (k : EntryKeys) (boot c : ℕ) (hs : List Heard) (s : Stand) (taken under_way : List ℕ) (items : List Item) → Ran k boot c hs s
-    → IsSide client_limit (client_frames hs) (bad_of_client hs) (EndsAtClient s.ending hs) taken → Sent (taken ++ under_way) items → TakesFirst s under_way items
+    → IsSide client_limit (client_frames hs) (bad_of_client hs) (EndsAtClient s.ending hs) taken → Sent (taken ++ under_way) items → TakesFirst hs s under_way items

@@ -49,8 +49,8 @@ module _ (k : EntryKeys) (boot c : ℕ) (past : Past) (x : Connection) (items : 
   taken_of = taken_front true (items_in c past.order) up_of.veiled j.bodies (j.more ++ cut_of.rest) j.spelled
       (subst (λ (l : List (List ℕ)). SpellsItems true up_of.veiled l) (cut_of.cut ∙ append_assoc j.bodies j.more cut_of.rest) up_of.spelled)
 
-  pub takes_of : TakesFirst x.stand under_way items
-  takes_of = takes_what_was_sent k boot c x.heard x.stand j.taken under_way items j.ran j.client_side (subst (λ (b : List ℕ). Sent b items) j.piped j.is_sent)
+  pub takes_of : TakesFirst x.heard x.stand under_way items
+  takes_of = takes_what_was_sent k boot c x.heard x.stand j.came under_way items j.ran j.client_side (subst (λ (b : List ℕ). Sent b items) j.piped j.is_sent)
 
 -- ---- all connections
 

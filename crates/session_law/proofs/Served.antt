@@ -1,5 +1,5 @@
 -- What a connection that is joined to a store that follows comes to.
-use Rattle.std.proofs.Common.{◌≡◌, ℕ, suc, Bool, true, false, List, [], ◌∷◌, ◌++◌, Option, Some, None, length, refl, sym, ap, subst, ◌∙◌, arith, append_assoc, append-nil}
+use Rattle.std.proofs.Common.{◌≡◌, ℕ, suc, Bool, true, false, List, [], ◌∷◌, ◌++◌, Option, Some, length, refl, sym, ap, subst, ◌∙◌, arith, append_assoc, append-nil}
 use Rattle.payload_seal.specs.declared.keys.EntryKeys.{EntryKeys}
 use Rattle.zk_messages.specs.declared.request.Item.{Item}
 use Rattle.tree_state.specs.declared.message.Message.{Message}
@@ -12,7 +12,7 @@ use Rattle.tree_server.specs.Follows.{Past}
 use Rattle.tree_server.specs.declared.entry.Entry.{Entry}
 use Rattle.tree_server.proofs.Zipping.{Zips}
 use Rattle.sealed_machine.specs.Runs.{all_asked}
-use Rattle.entry_session.specs.Heard.{Heard, store_frames, bad_of_store}
+use Rattle.entry_session.specs.Heard.{store_frames, bad_of_store}
 use Rattle.entry_session.specs.Veiled.{SpellsItems}
 use Rattle.entry_session.specs.declared.ending.Ending.TheVariants as endings
 use Rattle.entry_session.proofs.HandedUp.{VeilsUpTo, whole_veiled}
@@ -57,11 +57,6 @@ spelled_many first (v ∷ vs) (b ∷ bs) h = ap suc (spelled_many false vs bs h.
 
 -- ---- endings
 
-not_at_store : (ending : Option Ending) (hs : List Heard) → ending ≡ None → EndsAtStore ending hs → ⊥
-unfolding EndsAtStore
-not_at_store None hs e h = h
-not_at_store (Some a) hs e h = absurd cc
-
 -- an honest session stopped at no frame of the store
 not_stopped : (ending : Option Ending) → IsHonestEnd ending → IsStopped ending → ⊥
 unfolding IsHonestEnd IsStopped IsGivenEnding
@@ -73,10 +68,10 @@ not_stopped ending h s = s
 
 -- ---- all that the store told
 
--- where nothing waits and the session goes on, it heard all of it
-heard_all : (k : EntryKeys) (boot c : ℕ) (past : Past) (x : Connection) (items : List Item) (under_way unfed : List ℕ) (j : IsJoined k boot c past x items under_way unfed) → Messages (past.told c) (past.pulled c ++ past.waiting c) → x.stand.ending ≡ None → past.waiting c ≡ [] → length (past.told c) ≡ length (store_frames x.heard)
+-- where nothing waits, and the session ended at no frame of the store, it heard all of it
+heard_all : (k : EntryKeys) (boot c : ℕ) (past : Past) (x : Connection) (items : List Item) (under_way unfed : List ℕ) (j : IsJoined k boot c past x items under_way unfed) → Messages (past.told c) (past.pulled c ++ past.waiting c) → (EndsAtStore x.stand.ending x.heard → ⊥) → past.waiting c ≡ [] → length (past.told c) ≡ length (store_frames x.heard)
 heard_all k boot c past x items under_way unfed j m going none =
-    all_heard (past.told c) (store_frames x.heard) (bad_of_store x.heard) (EndsAtStore x.stand.ending x.heard) (past.pulled c) (past.waiting c) (whole_frames k boot c x.heard x.stand j.ran) m j.store_side (not_at_store x.stand.ending x.heard going) none
+    all_heard (past.told c) (store_frames x.heard) (bad_of_store x.heard) (EndsAtStore x.stand.ending x.heard) (past.pulled c) (past.waiting c) (whole_frames k boot c x.heard x.stand j.ran) m j.store_side going none
 
 -- ---- all that was handed up
 
@@ -86,7 +81,7 @@ took_all k boot c past x items under_way unfed j fed over =
     let up = up_of k boot c past x items under_way unfed j in
     let cut = cut_of k boot c past x items under_way unfed j in
     let none : cut.rest ≡ [] = no_frames cut.rest j.partial (whole_back (j.bodies ++ j.more) cut.rest (subst AreWhole cut.cut (up_whole k boot c x.heard x.stand j.ran))) (cut.bytes ∙ (λ i. j.partial ++ fed i) ∙ append-nil j.partial) j.stream.partial in
-    let all : x.stand.up ≡ j.bodies = cut.cut ∙ (λ i. (j.bodies ++ j.all_taken over i) ++ none i) ∙ append-nil (j.bodies ++ []) ∙ append-nil j.bodies in
+    let all : x.stand.up ≡ j.bodies = cut.cut ∙ (λ i. (j.bodies ++ j.none_left over i) ++ none i) ∙ append-nil (j.bodies ++ []) ∙ append-nil j.bodies in
     spelled_many true (items_in c past.order) j.bodies j.spelled ∙ sym (ap length all) ∙ sym (spelled_many true up.veiled x.stand.up up.spelled) ∙ veiled_many k boot c 0 x.stand.sealed x.stand.items up.veiled up.each
 
 -- ---- served
@@ -121,8 +116,8 @@ module _ (k : EntryKeys) (boot c : ℕ) (past : Past) (x : Connection) (items : 
         filled_with = record { more = front.0 ++ takes.more; is = takes.first ∙ ap (λ (l : List Item). l ++ takes.more) front.1 ∙ append_assoc (items_in c plain_order) front.0 takes.more };
         all_received = λ going none. nothing_left (told.all (heard_all k boot c past x items under_way unfed j spelled going none));
         all_handed_up = takes.all;
-        all_taken = λ going none fed over.
-            same_front (items_in c plain_order) x.stand.items front.0 [] (sym front.1 ∙ sym (append-nil x.stand.items)) (same_number k c plain_order past.order veils ∙ took_all k boot c past x items under_way unfed j fed over) ∙ takes.all going none;
+        all_taken = λ fed over.
+            same_front (items_in c plain_order) x.stand.items front.0 [] (sym front.1 ∙ sym (append-nil x.stand.items)) (same_number k c plain_order past.order veils ∙ took_all k boot c past x items under_way unfed j fed over);
         closed = λ e.
             let l = told.closed e in
             let ends = closed_ends k c start plain_order acts l.before l.last l.open_ told.done told.left l.to_come closing l.closes l.asked told.front l.talks in

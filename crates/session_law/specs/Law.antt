@@ -1,7 +1,8 @@
 -- The law over many sessions: over one store that follows the machine, and what the session of each connection heard.
-use Rattle.std.specs.Prelude.{◌≡◌, ◌<◌, ◌<ℤ◌, ℕ, ℤ, suc, pos, List, [], ◌∷◌, ◌++◌, length, true, false, Option, Some, None, All}
+use Rattle.std.specs.Prelude.{◌≡◌, ◌<◌, ◌^◌, ◌<ℤ◌, ℕ, ℤ, suc, pos, List, [], ◌∷◌, ◌++◌, length, true, false, Option, Some, None, All}
 use Rattle.jute_core.specs.Frames.{Stream}
 use Rattle.path_seal.specs.Sealed.{AreKeys}
+use Rattle.payload_seal.specs.Ivs.{payload_iv}
 use Rattle.payload_seal.specs.declared.keys.EntryKeys.{EntryKeys}
 use Rattle.zk_messages.specs.Sent.{Sent, client_limit}
 use Rattle.zk_messages.specs.declared.request.Item.{Item}
@@ -24,6 +25,7 @@ use Rattle.tree_server.specs.declared.entry.Entry.{Entry}
 use Rattle.tree_server.specs.declared.entry.Entry.TheVariants.{Take}
 use Rattle.entry_session.specs.Heard.{Heard, from_client, from_store, bad_client, bad_store, given, client_frames, store_frames, bad_of_client, bad_of_store}
 use Rattle.entry_session.specs.Stands.{Stand}
+use Rattle.entry_session.specs.ClientTurns.{greatest_epoch}
 use Rattle.entry_session.specs.Runs.{Ran, store_limit, IsGivenEnding}
 use Rattle.entry_session.specs.Veiled.{VeilsFrom, SpellsItems}
 use Rattle.entry_session.specs.Sides.{IsSide, EndsAtClient, EndsAtStore, bytes_of}
@@ -34,7 +36,7 @@ use Rattle.tree_server.specs.Fill.{Fills, items_in, IsFront, EndsInClose}
 -- ---- what is given
 
 -- One connection between a client and the store: the bytes that its client gave, what its session heard and where that led, and the bytes
--- that the store was fed. The client received exactly the frames that the session handed down.
+-- that the store was fed. What the client received is by definition the frames that the session handed down.
 pub record Connection : Type 0 where
   pub sent : List ℕ
   pub heard : List Heard
@@ -64,11 +66,11 @@ AreBehind told (given e ∷ hs) = AreBehind told hs
 -- What joins connection c to its session and to the store.
 pub record IsJoined (k : EntryKeys) (boot c : ℕ) (past : Past) (x : Connection) (items : List Item) (under_way unfed : List ℕ) : Type 0 where
   pub ran : Ran k boot c x.heard x.stand
-  -- the items that the client sent; its session took the first bytes, and the others are under way
+  -- the items that the client sent; the first bytes came to its session, and the others are under way
   pub is_sent : Sent x.sent items
-  pub taken : List ℕ
-  pub piped : x.sent ≡ taken ++ under_way
-  pub client_side : IsSide client_limit (client_frames x.heard) (bad_of_client x.heard) (EndsAtClient x.stand.ending x.heard) taken
+  pub came : List ℕ
+  pub piped : x.sent ≡ came ++ under_way
+  pub client_side : IsSide client_limit (client_frames x.heard) (bad_of_client x.heard) (EndsAtClient x.stand.ending x.heard) came
   -- the store's bytes are those pulled
   pub store_side : IsSide store_limit (store_frames x.heard) (bad_of_store x.heard) (EndsAtStore x.stand.ending x.heard) (past.pulled c)
   -- the store was fed the first of what was handed up
@@ -79,12 +81,13 @@ pub record IsJoined (k : EntryKeys) (boot c : ℕ) (past : Past) (x : Connection
   pub partial : List ℕ
   pub stream : Stream (bodies ++ more) partial x.fed
   pub spelled : SpellsItems true (items_in c past.order) bodies
-  pub all_taken : past.over c ≡ false → more ≡ []
+  pub none_left : past.over c ≡ false → more ≡ []
   pub behind : AreBehind (past.told c) x.heard
 
 -- ---- what follows
 
--- no ending but that of a limit, of a malformed frame of the client, of the caller, and of the close
+-- No ending but that of a limit, of a malformed frame of the client, of the caller, rightly or not, and of the close. The limit on the store's
+-- frames was really passed.
 unfoldable pub IsHonestEnd : Option Ending → Type 0
 IsHonestEnd None = Unit {0}
 IsHonestEnd (Some (endings.ClientTooLong z)) = Unit {0}
@@ -95,7 +98,7 @@ IsHonestEnd (Some endings.IvSpent) = Unit {0}
 IsHonestEnd (Some endings.Closed) = Unit {0}
 IsHonestEnd (Some e) = IsGivenEnding e
 
--- the request is sealed under IVs, each of an epoch that has a key
+-- the request is sealed under IVs, each of an epoch that has a key; `each` and `taken_up` of IsServed say which
 pub record IsVeiled (k : EntryKeys) (plain veiled : Request) : Type 0 where
   pub ivs : List (List ℕ)
   pub are_ivs : All (IsIvOf k.payloads) ivs
@@ -125,11 +128,13 @@ pub record IsServed (k : EntryKeys) (boot c : ℕ) (past : Past) (plain_order : 
   -- the store's entries hold the first of these, and the filled ones the first items that the client sent
   pub taken_up : IsFront (items_in c past.order) veiled
   pub filled_with : IsFront (items_in c plain_order) items
-  -- all of it, once nothing waits, nothing is under way, all was fed, and the store's side goes on
-  pub all_received : x.stand.ending ≡ None → past.waiting c ≡ [] → left ≡ []
-  pub all_handed_up : x.stand.ending ≡ None → under_way ≡ [] → x.stand.items ≡ items
-  pub all_taken : x.stand.ending ≡ None → under_way ≡ [] → unfed ≡ [] → past.over c ≡ false → items_in c plain_order ≡ items
-  -- and where the session was closed, nothing more comes
+  -- the client received all of it once nothing waits, unless the session ended at a frame of the store
+  pub all_received : (EndsAtStore x.stand.ending x.heard → ⊥) → past.waiting c ≡ [] → left ≡ []
+  -- all that it sent was handed up once nothing is under way, unless the session ended at a frame of the client
+  pub all_handed_up : (EndsAtClient x.stand.ending x.heard → ⊥) → under_way ≡ [] → x.stand.items ≡ items
+  -- and the store took all that was handed up once it was fed all of that, while its side goes on
+  pub all_taken : unfed ≡ [] → past.over c ≡ false → items_in c plain_order ≡ x.stand.items
+  -- where the session was closed, nothing more comes
   pub closed : x.stand.ending ≡ Some endings.Closed → (left ≡ []) × EndsInClose (items_in c plain_order)
 
 -- The order, filled with what the clients sent, may be that of the plain machine with the same passwords; the store's requests are
@@ -140,10 +145,13 @@ pub record Headline (k : EntryKeys) (boot : ℕ) (passwords : ℤ → List ℕ) 
   pub acts : List Act
   pub legal : Legal plain passwords plain_order acts
   pub veils : Zips (VeilsEntry k) plain_order past.order
+  -- no two payloads that the sessions sealed have one IV
+  pub own_ivs : (c d i j : ℕ) → c < 2 ^ 32 → d < 2 ^ 32 → i < (x c).stand.sealed → j < (x d).stand.sealed
+      → payload_iv (greatest_epoch k) boot c i ≡ payload_iv (greatest_epoch k) boot d j → (c ≡ d) × (i ≡ j)
   pub served : (c : ℕ) → IsServed k boot c past plain_order acts (x c) (items c) (under_way c) (unfed c)
 
--- For every store that follows the machine with the names of a counter enclave under the same keys, and every connection joined to it. It
--- speaks of one moment, and holds at each.
+-- For every store that follows the machine with the names of a counter enclave under the same keys, and every connection joined to it, all of
+-- one boot and each under its number at the store. It speaks of one moment, and holds at each.
 abbrev pub HoldsOverSessions : Type 0
 HoldsOverSessions = (k : EntryKeys) (boot : ℕ) (naming : Naming) (passwords : ℤ → List ℕ) (past : Past) (x : ℕ → Connection) (items : ℕ → List Item) (under_way unfed : ℕ → List ℕ)
     → AreKeys k.names → 0 < length k.payloads → IsNaming (IsSealedName k.names) naming → Follows naming passwords past
