@@ -1,32 +1,25 @@
--- A store tells a connection one answer for each entry of its own: what else it tells are events.
-use Rattle.std.proofs.Common.{◌≡◌, ℕ, suc, ℤ, ◌+◌, Bool, true, false, cond, List, [], ◌∷◌, ◌++◌, Option, Some, None, length, refl, sym, ap, ◌∙◌, arith}
+-- A step tells a connection one answer where the act is its own, and else none: what else it tells are events.
+use Rattle.std.proofs.Common.{◌≡◌, ℕ, ℤ, ◌+◌, Bool, true, false, cond, List, [], ◌∷◌, ◌++◌, Option, Some, None, refl, sym, ap, ◌∙◌, arith}
 use Rattle.std.specs.Prelude.{◌==◌}
 use Rattle.zk_records.specs.declared.connect.ConnectRequest.{ConnectRequest}
 use Rattle.zk_records.specs.declared.connect.ConnectResponse.{ConnectResponse}
 use Rattle.zk_messages.specs.declared.reply.Event.{Event}
 use Rattle.zk_messages.specs.declared.reply.Reply.{Reply}
-use Rattle.zk_messages.specs.declared.request.Item.{Item}
-use Rattle.zk_messages.specs.declared.request.Item.TheVariants as items
-use Rattle.tree_state.specs.declared.message.Message.{Message}
 use Rattle.tree_state.specs.declared.message.Message.TheVariants as messages
 use Rattle.tree_state.specs.declared.message.Output.{Output}
 use Rattle.tree_state.specs.declared.node.Moment.{Moment}
 use Rattle.tree_state.specs.declared.session.Given.{Given}
 use Rattle.tree_state.specs.Nodes.{Path, Place, Node, find, ephemerals}
-use Rattle.tree_state.specs.State.{State, Aspect, on_data, on_children, next_zxid, start}
+use Rattle.tree_state.specs.State.{State, Aspect, on_data, on_children, next_zxid}
 use Rattle.tree_state.specs.Commands.{Change, create, delete, set_content, check, Command, refused, single, multi, set_acl, stat_at, get_content, get_acl, get_children, sync, ping, set_watches, close}
 use Rattle.tree_state.specs.Changes.{Trial, failed, done, need, refuse, Naming, Effect, Effects, event_to, events_to, creation_events, end_events, deletion_events, content_events, created, deleted, updated, perform, no_effects, after_effect, or_failed, perform_all, all_deleted}
 use Rattle.tree_state.specs.Step.{Act, Answer, with_error, told_only, or_error, answer_single, answer_multi, Notice, tells, watches, Noticed, noticed, all_noticed, with_noticed, answer, taken, replied, hears, answer_connect, expired, step}
-use Rattle.tree_server.specs.Out.{outputs, to_connection}
-use Rattle.tree_server.specs.Follows.{ShowsMessage}
-use Rattle.tree_server.proofs.Zipping.{Zips}
+use Rattle.tree_server.specs.Out.{to_connection}
 use Rattle.sealed_machine.proofs.Connections.{to_connection-append}
-use Rattle.session_law.specs.Law.{answers}
-use Rattle.session_law.specs.Laws.{AnswersEachEntry}
+use Rattle.session_law.specs.Law.{sent_by}
+use Rattle.session_law.proofs.Answered.{answers}
 use Rattle.session_law.proofs.SessionMessages.{answers-append}
-use Rattle.session_law.proofs.Orders.{Entry, Connect, Take, Lost, Expire, IsAct, MayCome, LegalFrom}
-use Rattle.session_law.proofs.Filling.{items_in}
-use Rattle.session_law.proofs.Begun.{flipped}
+use Rattle.session_law.proofs.Orders.{Entry, Connect, Take, Lost, Expire, IsAct, MayCome}
 
 -- ---- events
 
@@ -189,9 +182,6 @@ one_if : Bool → ℕ
 one_if true = 1
 one_if false = 0
 
-flipped_one : (c d : ℕ) → one_if (d == c) ≡ one_if (c == d)
-flipped_one c d = ap one_if (flipped d c)
-
 one_reply : (c d : ℕ) (r : Reply) → answers_to c (record { connection = d; message = messages.Reply r } ∷ []) ≡ one_if (d == c)
 unfolding answers_to to_connection answers one_if
 one_reply c d r = go (d == c)
@@ -219,47 +209,20 @@ taken_one : (c d : ℕ) (naming : Naming) (xid : ℤ) (command : Command) (now s
 unfolding taken replied
 taken_one c d naming xid command now session s = with_reply c d _ _ (answer_none c d naming (record { zxid = next_zxid s; time = now; session = session }) (hears session now s) command)
 
-items_more : (b : Bool) (i : Item) (is : List Item) → length (cond b (i ∷ is) is) ≡ one_if b + length is
+one_is : (b : Bool) → one_if b ≡ cond b 1 0
 unfolding one_if
-items_more true i is = omega arith
-items_more false i is = omega arith
+one_is true = refl
+one_is false = refl
 
-entry_answers : (c : ℕ) (naming : Naming) (passwords : ℤ → List ℕ) (s : State) (e : Entry) (es : List Entry) (f : Act) → IsAct e f → MayCome passwords s e → answers_to c (step naming s f).outputs + length (items_in c es) ≡ length (items_in c (e ∷ es))
-unfolding IsAct MayCome step items_in expired
-entry_answers c naming passwords s (Take d xid r zxid now) es f a m =
-    ap (λ (g : Act). answers_to c (step naming s g).outputs + length (items_in c es)) a.is
-    ∙ ap (λ (o : Option ℤ). answers_to c (taken naming d xid a.command now s o).outputs + length (items_in c es)) m.live
-    ∙ ap (λ (n : ℕ). n + length (items_in c es)) (taken_one c d naming xid a.command now m.session s ∙ flipped_one c d)
-    ∙ sym (items_more (c == d) (items.Requests xid r) (items_in c es))
-entry_answers c naming passwords s (Connect d asked session timeout password zxid now) es f a m =
-    ap (λ (g : Act). answers_to c (step naming s g).outputs + length (items_in c es)) a
-    ∙ ap (λ (n : ℕ). n + length (items_in c es)) (one_response c d asked _ ∙ flipped_one c d)
-    ∙ sym (items_more (c == d) (items.Asks asked) (items_in c es))
-entry_answers c naming passwords s (Lost d) es f a m = ap (λ (g : Act). answers_to c (step naming s g).outputs + length (items_in c es)) a ∙ ap (λ (n : ℕ). n + length (items_in c es)) (nothing_told c) ∙ none_plus (length (items_in c es))
-entry_answers c naming passwords s (Expire session zxid now) es f a m = ap (λ (g : Act). answers_to c (step naming s g).outputs + length (items_in c es)) a ∙ ap (λ (n : ℕ). n + length (items_in c es)) (all_deleted_none c (next_zxid s) (ephemerals session s.nodes) s) ∙ none_plus (length (items_in c es))
-
-run_answers : (c : ℕ) (naming : Naming) (passwords : ℤ → List ℕ) (es : List Entry) (fs : List Act) (s : State) → Zips IsAct es fs → LegalFrom naming passwords s es fs → answers_to c (outputs naming s fs) ≡ length (items_in c es)
-unfolding Zips LegalFrom outputs items_in
-run_answers c naming passwords [] [] s a l = nothing_told c
-run_answers c naming passwords [] (f ∷ fs) s a l = absurd a
-run_answers c naming passwords (e ∷ es) [] s a l = absurd a
-run_answers c naming passwords (e ∷ es) (f ∷ fs) s a l =
-    joined c (step naming s f).outputs (outputs naming (step naming s f).state fs)
-    ∙ ap (λ (n : ℕ). answers_to c (step naming s f).outputs + n) (run_answers c naming passwords es fs (step naming s f).state a.1 l.1)
-    ∙ entry_answers c naming passwords s e es f a.0 l.0.may
-
--- what is shown has as many answers
-shown_answers : (ms told : List Message) → Zips ShowsMessage ms told → answers told ≡ answers ms
-unfolding Zips ShowsMessage answers
-shown_answers [] [] h = refl
-shown_answers [] (t ∷ told) h = absurd h
-shown_answers (m ∷ ms) [] h = absurd h
-shown_answers (messages.Connected r ∷ ms) (t ∷ told) h = ap (λ (x : Message). answers (x ∷ told)) h.0 ∙ ap suc (shown_answers ms told h.1)
-shown_answers (messages.Event e ∷ ms) (t ∷ told) h = ap (λ (x : Message). answers (x ∷ told)) h.0 ∙ shown_answers ms told h.1
-shown_answers (messages.Reply r ∷ ms) (messages.Reply t ∷ told) h = ap suc (shown_answers ms told h.1)
-shown_answers (messages.Reply r ∷ ms) (messages.Event t ∷ told) h = absurd h.0
-shown_answers (messages.Reply r ∷ ms) (messages.Connected t ∷ told) h = absurd h.0
-
-pub answers_each_entry : AnswersEachEntry
-unfolding answers_to
-answers_each_entry naming passwords order acts c told legal shown = shown_answers _ told shown ∙ run_answers c naming passwords order acts start legal.are_acts legal.steps
+-- a step tells a connection one answer where the act is its own, and else none
+pub step_answers : (c : ℕ) (naming : Naming) (passwords : ℤ → List ℕ) (s : State) (e : Entry) (f : Act) → IsAct e f → MayCome passwords s e → answers (to_connection c (step naming s f).outputs) ≡ sent_by c f
+unfolding IsAct MayCome step expired answers_to sent_by
+step_answers c naming passwords s (Take d xid r zxid now) f a m =
+    ap (λ (g : Act). answers_to c (step naming s g).outputs) a.is
+    ∙ ap (λ (o : Option ℤ). answers_to c (taken naming d xid a.command now s o).outputs) m.live
+    ∙ taken_one c d naming xid a.command now m.session s ∙ one_is (d == c) ∙ sym (ap (sent_by c) a.is)
+step_answers c naming passwords s (Connect d asked session timeout password zxid now) f a m =
+    ap (λ (g : Act). answers_to c (step naming s g).outputs) a ∙ one_response c d asked _ ∙ one_is (d == c) ∙ sym (ap (sent_by c) a)
+step_answers c naming passwords s (Lost d) f a m = ap (λ (g : Act). answers_to c (step naming s g).outputs) a ∙ nothing_told c ∙ sym (ap (sent_by c) a)
+step_answers c naming passwords s (Expire session zxid now) f a m =
+    ap (λ (g : Act). answers_to c (step naming s g).outputs) a ∙ all_deleted_none c (next_zxid s) (ephemerals session s.nodes) s ∙ sym (ap (sent_by c) a)

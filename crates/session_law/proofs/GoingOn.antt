@@ -16,14 +16,14 @@ within (x ∷ xs) more (d ∷ done) left m e l =
 
 pub stays_behind : StaysBehind
 unfolding AreBehind store_frames
-stays_behind told more [] l h = tt
-stays_behind told more (from_store body ∷ hs) l h = (
-  (λ done left m e count answer.
-      let w = within told more done left m e (omega (arith, l, count, length-append (store_frames hs) (body ∷ []))) in
-      h.0 done w.0 m w.1 count answer),
-  stays_behind told more hs (omega (arith, l, length-append (store_frames hs) (body ∷ []))) h.1,
+stays_behind counts more [] l h = tt
+stays_behind counts more (from_store body ∷ hs) l h = (
+  (λ done left n e same.
+      let w = within counts more done left n e (omega (arith, l, same, length-append (store_frames hs) (body ∷ []))) in
+      h.0 done w.0 n w.1 same),
+  stays_behind counts more hs (omega (arith, l, length-append (store_frames hs) (body ∷ []))) h.1,
 )
-stays_behind told more (from_client body ∷ hs) l h = stays_behind told more hs l h
-stays_behind told more (bad_client z ∷ hs) l h = stays_behind told more hs l h
-stays_behind told more (bad_store z ∷ hs) l h = stays_behind told more hs l h
-stays_behind told more (given e ∷ hs) l h = stays_behind told more hs l h
+stays_behind counts more (from_client body ∷ hs) l h = stays_behind counts more hs l h
+stays_behind counts more (bad_client z ∷ hs) l h = stays_behind counts more hs l h
+stays_behind counts more (bad_store z ∷ hs) l h = stays_behind counts more hs l h
+stays_behind counts more (given e ∷ hs) l h = stays_behind counts more hs l h

@@ -8,11 +8,11 @@ use Rattle.sealed_machine.proofs.AnswersFit.{plain_fits}
 use Rattle.sealed_machine.proofs.RefusalCodes.{all_answerable}
 use Rattle.entry_session.proofs.OwnIvs.{own_ivs}
 use Rattle.session_law.specs.Law.{HoldsOverSessions}
-use Rattle.session_law.proofs.Joined.{filled, filled_acts, filled_steps, filled_once, filled_fills, talks_of, told_of, closing_of}
+use Rattle.session_law.proofs.Joined.{filled, filled_acts, filled_steps, filled_once, filled_fills, talks_of, told_of, turn_of, closing_of}
 use Rattle.session_law.proofs.Served.{served}
 
 pub holds : HoldsOverSessions
-holds k boot naming passwords past x items under_way unfed w some names follows j =
+holds k boot naming passwords past x items under_way unfed w some names follows j b =
     let order = filled k w some boot naming names passwords past x items under_way unfed follows j in
     let acts = filled_acts k w some boot naming names passwords past x items under_way unfed follows j in
     let fits : (c : ℕ) → (bytes : List ℕ) × Messages (out plain acts.acts c) bytes =
@@ -31,5 +31,6 @@ holds k boot naming passwords past x items under_way unfed w some names follows 
       veils = order.veils;
       own_ivs = own_ivs k boot (λ c. (x c).heard) (λ c. (x c).stand) (λ c. (j c).ran);
       served = λ c. served k boot c past (x c) (items c) (under_way c) (unfed c) (j c) order.plain_order acts.acts order.veils (order.front c) (follows.spelled c)
-          (told_of k w some boot naming names passwords past x items under_way unfed follows j c) (closing_of k w some boot naming names passwords past x items under_way unfed follows j c) (fits c).0 (fits c).1;
+          (told_of k w some boot naming names passwords past x items under_way unfed follows j b c) (closing_of k w some boot naming names passwords past x items under_way unfed follows j c) (fits c).0 (fits c).1
+          (turn_of k w some boot naming names passwords past x items under_way unfed follows j b c);
     }

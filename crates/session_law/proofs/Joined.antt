@@ -1,5 +1,5 @@
 -- The law: over a store that follows, every connection that is joined to it is served.
-use Rattle.std.proofs.Common.{◌≡◌, ℕ, ℤ, true, List, ◌++◌, length, ap, subst, ◌∙◌, append_assoc}
+use Rattle.std.proofs.Common.{◌≡◌, ℕ, ℤ, true, List, ◌++◌, length, ap, subst, ◌∙◌, append_assoc, sym}
 use Rattle.std.specs.Prelude.{◌<◌}
 use Rattle.path_seal.specs.Sealed.{AreKeys}
 use Rattle.payload_seal.specs.declared.keys.EntryKeys.{EntryKeys}
@@ -23,7 +23,8 @@ use Rattle.entry_session.specs.Veiled.{SpellsItems}
 use Rattle.entry_session.proofs.HandedUp.{HandedUp, handed}
 use Rattle.entry_session.proofs.SentItems.{takes_what_was_sent}
 use Rattle.tree_server.specs.Fill.{Fills, items_in}
-use Rattle.session_law.specs.Law.{Connection, IsJoined}
+use Rattle.session_law.specs.Law.{Connection, IsJoined, taken_at, AreBehind}
+use Rattle.session_law.proofs.InTurn.{told_behind, same_taken}
 use Rattle.session_law.proofs.Words.{IsOrderly}
 use Rattle.session_law.proofs.Orders.{PlainActs, plain_acts, legal_filled, connects_once}
 use Rattle.session_law.proofs.Filling.{Filled, fill_all, fills_more, taken_front, all_sealed}
@@ -86,8 +87,13 @@ module _ (k : EntryKeys) (w : AreKeys k.names) (some : 0 < length k.payloads) (b
       (before k w naming names passwords c filled.plain_order filled_acts.acts past.acts start start (start_none c) filled_once filled_acts.are filled_acts.veil filled_steps (start_sealed k)
       (front_fit (items_in c filled.plain_order) front.0 (subst XidsFit front.1 fits)))
 
-  pub told_of : (c : ℕ) → IsTold k (all_asked c start filled_acts.acts) (out plain filled_acts.acts c) (past.told c) (x c).heard (x c).stand
-  told_of c = orderly_told k boot c w filled_acts.acts (past.told c) (x c).heard (x c).stand (past.pulled c) (past.waiting c) (talks_of c) (j c).ran (follows.spelled c) (j c).store_side (j c).behind (orderly_of c)
+  pub told_of : ((c : ℕ) → AreBehind (taken_at naming start c 0 past.acts) (x c).heard) → (c : ℕ) → IsTold k (all_asked c start filled_acts.acts) (out plain filled_acts.acts c) (past.told c) (x c).heard (x c).stand
+  told_of b c =
+      let behind = told_behind c naming passwords past.order past.acts start (past.told c) (x c).heard follows.legal.are_acts follows.legal.steps (follows.shown c) (b c) in
+      orderly_told k boot c w filled_acts.acts (past.told c) (x c).heard (x c).stand (past.pulled c) (past.waiting c) (talks_of c) (j c).ran (follows.spelled c) (j c).store_side behind (orderly_of c)
+
+  pub turn_of : ((c : ℕ) → AreBehind (taken_at naming start c 0 past.acts) (x c).heard) → (c : ℕ) → AreBehind (taken_at plain start c 0 filled_acts.acts) (x c).heard
+  turn_of b c = subst (λ (l : List ℕ). AreBehind l (x c).heard) (sym (same_taken k w naming names c filled_acts.acts past.acts start start 0 filled_acts.veil (start_sealed k))) (b c)
 
   pub closing_of : (c : ℕ) → Closing c start filled.plain_order filled_acts.acts
   closing_of c = closing passwords c filled.plain_order filled_acts.acts start (start_none c) filled_once filled_acts.are filled_steps

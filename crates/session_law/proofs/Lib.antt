@@ -1,3 +1,4 @@
+pub mod Answered
 pub mod Words
 pub mod OneBody
 pub mod Pieces
@@ -16,8 +17,9 @@ pub mod Closing
 pub mod UpWhole
 pub mod Ends
 pub mod Told
+pub mod AnswersEach
+pub mod InTurn
 pub mod Joined
 pub mod Served
 pub mod Holds
 pub mod GoingOn
-pub mod AnswersEach

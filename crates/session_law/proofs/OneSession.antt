@@ -16,7 +16,8 @@ use Rattle.entry_session.specs.Stands.{Stand, fresh}
 use Rattle.entry_session.specs.declared.ending.Ending.{Ending}
 use Rattle.entry_session.specs.declared.ending.Ending.TheVariants as endings
 use Rattle.entry_session.proofs.Turns.{SameUp, goes, some_none, end_up, store_up}
-use Rattle.session_law.specs.Law.{AreBehind, IsHonestEnd}
+use Rattle.session_law.specs.Law.{IsHonestEnd}
+use Rattle.session_law.proofs.Answered.{AnswersBehind}
 use Rattle.session_law.proofs.Words.{SpellsFront, IsBegun}
 use Rattle.session_law.proofs.SessionMessages.{before_spelled}
 use Rattle.session_law.proofs.SessionStands.{Reached, reached_at, begins, with_end, client_turn}
@@ -79,9 +80,9 @@ given_open e g i = subst IsGivenEnding i g
 -- ---- the session
 
 module _ (k : EntryKeys) (boot c : ℕ) (w : AreKeys k.names) (r : ConnectResponse) (qs : List Question) (ms ns : List Message) (quiet : HasNoConnected ns) (final : List Item) (begun : IsBegun r qs final) where
-  turn_reached : (hs : List Heard) (old : Stand) (h : Heard) (new : Stand) (more : List Item) → final ≡ old.items ++ more → SpellsFront (messages.Connected r ∷ ns) (store_frames (h ∷ hs)) → AreBehind (messages.Connected r ∷ ns) (h ∷ hs)
+  turn_reached : (hs : List Heard) (old : Stand) (h : Heard) (new : Stand) (more : List Item) → final ≡ old.items ++ more → SpellsFront (messages.Connected r ∷ ns) (store_frames (h ∷ hs)) → AnswersBehind (messages.Connected r ∷ ns) (h ∷ hs)
       → ((z : ℤ) → bad_of_store (h ∷ hs) ≡ Some z → pos store_limit <ℤ z) → old.ending ≡ None → TurnOf k boot c old h new → Reached k r qs ms ns hs old → Reached k r qs ms ns (h ∷ hs) new
-  unfolding TurnOf AreBehind store_frames bad_of_store IsHonestEnd
+  unfolding TurnOf AnswersBehind store_frames bad_of_store IsHonestEnd
   turn_reached hs old (from_client body) new more fin sp behind long going t x = client_turn k boot c r qs ms ns hs old body new going t.1 x
   turn_reached hs old (from_store body) new more fin sp behind long going t x =
       store_turn k w c r qs ms ns hs old body final quiet old.items old.answered new (at_frame k r qs ms ns hs old body final more x going sp behind.0 begun fin) refl refl t.1
@@ -89,8 +90,8 @@ module _ (k : EntryKeys) (boot c : ℕ) (w : AreKeys k.names) (r : ConnectRespon
   turn_reached hs old (bad_store z) new more fin sp behind long going t x = reached_at k r qs ms ns (bad_store z ∷ hs) _ new t.1 (with_end k r qs ms ns hs old (endings.StoreTooLong z) (bad_store z) (long z refl) (λ e. absurd cc) refl x)
   turn_reached hs old (given e) new more fin sp behind long going t x = reached_at k r qs ms ns (given e ∷ hs) _ new t.1 (with_end k r qs ms ns hs old e (given e) (given_honest e t.0) (given_open e t.0) refl x)
 
-  behind_before : (h : Heard) (hs : List Heard) → AreBehind (messages.Connected r ∷ ns) (h ∷ hs) → AreBehind (messages.Connected r ∷ ns) hs
-  unfolding AreBehind
+  behind_before : (h : Heard) (hs : List Heard) → AnswersBehind (messages.Connected r ∷ ns) (h ∷ hs) → AnswersBehind (messages.Connected r ∷ ns) hs
+  unfolding AnswersBehind
   behind_before (from_client body) hs b = b
   behind_before (from_store body) hs b = b.1
   behind_before (bad_client z) hs b = b
@@ -106,7 +107,7 @@ module _ (k : EntryKeys) (boot c : ℕ) (w : AreKeys k.names) (r : ConnectRespon
   front_before (given e) hs b = b
 
   -- whatever the session heard, of these messages and of its client, it stands where the plain messages lead it
-  pub one_session : Talks k qs ms ns → (hs : List Heard) (s : Stand) (more : List Item) → Ran k boot c hs s → SpellsFront (messages.Connected r ∷ ns) (store_frames hs) → AreBehind (messages.Connected r ∷ ns) hs
+  pub one_session : Talks k qs ms ns → (hs : List Heard) (s : Stand) (more : List Item) → Ran k boot c hs s → SpellsFront (messages.Connected r ∷ ns) (store_frames hs) → AnswersBehind (messages.Connected r ∷ ns) hs
       → ((z : ℤ) → bad_of_store hs ≡ Some z → pos store_limit <ℤ z) → final ≡ s.items ++ more → Reached k r qs ms ns hs s
   unfolding Ran
   one_session talks [] s more ran sp behind long fin = reached_at k r qs ms ns [] fresh s ran (begins k r qs ms ns talks)
@@ -118,12 +119,12 @@ module _ (k : EntryKeys) (boot c : ℕ) (w : AreKeys k.names) (r : ConnectRespon
 
 -- the same from the bytes of the store's side
 pub reached : (k : EntryKeys) (boot c : ℕ) → AreKeys k.names → (r : ConnectResponse) (qs : List Question) (ms ns told : List Message) (hs : List Heard) (s : Stand) (pulled waiting : List ℕ) → told ≡ messages.Connected r ∷ ns → Talks k qs ms ns → HasNoConnected ns
-    → Ran k boot c hs s → IsBegun r qs s.items → Messages told (pulled ++ waiting) → IsSide store_limit (store_frames hs) (bad_of_store hs) (EndsAtStore s.ending hs) pulled → AreBehind told hs → Reached k r qs ms ns hs s
+    → Ran k boot c hs s → IsBegun r qs s.items → Messages told (pulled ++ waiting) → IsSide store_limit (store_frames hs) (bad_of_store hs) (EndsAtStore s.ending hs) pulled → AnswersBehind told hs → Reached k r qs ms ns hs s
 reached k boot c w r qs ms ns told hs s pulled waiting is talks quiet ran begun spelled side behind =
     let whole = whole_frames k boot c hs s ran in
     one_session k boot c w r qs ms ns quiet s.items begun talks hs s [] ran
     (subst (λ (l : List Message). SpellsFront l (store_frames hs)) is (front_spelled told (store_frames hs) (bad_of_store hs) (EndsAtStore s.ending hs) pulled waiting whole spelled side))
-    (subst (λ (l : List Message). AreBehind l hs) is behind)
+    (subst (λ (l : List Message). AnswersBehind l hs) is behind)
     (honest_length told (store_frames hs) (bad_of_store hs) (EndsAtStore s.ending hs) pulled waiting whole spelled side)
     (sym (append-nil s.items))
 

@@ -22,7 +22,7 @@ use Rattle.entry_session.specs.Sides.{EndsAtStore}
 use Rattle.entry_session.specs.declared.ending.Ending.{Ending}
 use Rattle.tree_server.specs.Fill.{items_in}
 use Rattle.entry_session.specs.Runs.{IsGivenEnding}
-use Rattle.session_law.specs.Law.{IsHonestEnd, Connection, IsJoined, IsServed, VeilsEntry}
+use Rattle.session_law.specs.Law.{IsHonestEnd, Connection, IsJoined, IsServed, VeilsEntry, taken_at, AreBehind}
 use Rattle.session_law.proofs.Filling.{same_number}
 use Rattle.session_law.proofs.Closing.{Closing}
 use Rattle.session_law.proofs.Ends.{closed_ends}
@@ -89,7 +89,7 @@ took_all k boot c past x items under_way unfed j fed over =
 module _ (k : EntryKeys) (boot c : ℕ) (past : Past) (x : Connection) (items : List Item) (under_way unfed : List ℕ) (j : IsJoined k boot c past x items under_way unfed) (plain_order : List Entry) (acts : List Act)
     (veils : Zips (VeilsEntry k) plain_order past.order) (front : (more : List Item) × (x.stand.items ≡ items_in c plain_order ++ more))
     (spelled : Messages (past.told c) (past.pulled c ++ past.waiting c)) (told : IsTold k (all_asked c start acts) (out plain acts c) (past.told c) x.heard x.stand) (closing : Closing c start plain_order acts)
-    (bytes : List ℕ) (plain_spelled : Messages (out plain acts c) bytes) where
+    (bytes : List ℕ) (plain_spelled : Messages (out plain acts c) bytes) (turn : AreBehind (taken_at plain start c 0 acts) x.heard) where
   abbrev down : Received told.left x.stand.down bytes
   down = received told.done told.left x.stand.down bytes told.down (subst (λ (l : List Message). Messages l bytes) told.front plain_spelled)
 
@@ -104,6 +104,7 @@ module _ (k : EntryKeys) (boot c : ℕ) (past : Past) (x : Connection) (items : 
       record {
         left = down.rest;
         received = subst (Messages (out plain acts c)) down.cut plain_spelled;
+        in_turn = turn;
         one_for_one = (hands_down k boot c x.heard x.stand j.ran).others (not_stopped x.stand.ending told.honest);
         nothing_found = told.none;
         honest = told.honest;

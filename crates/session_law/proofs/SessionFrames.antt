@@ -39,7 +39,8 @@ use Rattle.entry_session.specs.declared.ending.Ending.TheVariants as endings
 use Rattle.entry_session.proofs.OneItem.{one_asked}
 use Rattle.entry_session.proofs.Reading.{long_enough, one_int, reply_begins, event_begins, is_reply, connected_or_refused}
 use Rattle.entry_session.proofs.Turns.{some_none}
-use Rattle.session_law.specs.Law.{IsAnswer, answers, IsHonestEnd}
+use Rattle.session_law.specs.Law.{IsHonestEnd}
+use Rattle.session_law.proofs.Answered.{IsAnswer, answers}
 use Rattle.session_law.proofs.Words.{SpellsFront, AreAsked, IsBegun}
 use Rattle.session_law.proofs.SessionMessages.{answers-append, same_backs, next_spelled, item_front, Of, asked_at, stands_at, is_close, EventCame, ReplyCame, Came, came_event, came_reply, came_session, came, first_is, rest_is, moved}
 use Rattle.session_law.proofs.SessionMessages.{is_answer, reply_answers, spells_response, spells_event, spells_reply, response_spelled, event_spelled, reply_spelled, no_connected_rest, not_connected}

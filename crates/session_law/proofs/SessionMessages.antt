@@ -20,7 +20,7 @@ use Rattle.tree_state.specs.declared.message.Message.TheVariants as messages
 use Rattle.tree_server.specs.Messages.{SpellsMessage}
 use Rattle.sealed_machine.specs.Runs.{Question, Talks, silent, told_event, told_reply, told_session, HasNoConnected}
 use Rattle.entry_session.specs.StoreTurns.{item_at, IsOfForm}
-use Rattle.session_law.specs.Law.{IsAnswer, answers}
+use Rattle.session_law.proofs.Answered.{IsAnswer, answers}
 use Rattle.session_law.proofs.Words.{SpellsFront, AreAsked, IsBegun}
 
 -- ---- lists

@@ -18,7 +18,8 @@ use Rattle.entry_session.specs.Stands.{Stand, fresh, ends}
 use Rattle.entry_session.specs.declared.ending.Ending.{Ending}
 use Rattle.entry_session.specs.declared.ending.Ending.TheVariants as endings
 use Rattle.entry_session.proofs.Turns.{some_none}
-use Rattle.session_law.specs.Law.{answers, IsHonestEnd}
+use Rattle.session_law.specs.Law.{IsHonestEnd}
+use Rattle.session_law.proofs.Answered.{answers}
 
 -- before the connect request is answered, and after
 unfoldable pub At : ConnectResponse → List Message → List Question → List Message → ℕ → Type 0

@@ -20,7 +20,8 @@ use Rattle.entry_session.specs.Heard.{Heard, store_frames, bad_of_store}
 use Rattle.entry_session.specs.Runs.{Ran, store_limit}
 use Rattle.entry_session.specs.Sides.{IsSide, EndsAtStore}
 use Rattle.entry_session.specs.Stands.{Stand}
-use Rattle.session_law.specs.Law.{AreBehind, IsHonestEnd}
+use Rattle.session_law.specs.Law.{IsHonestEnd}
+use Rattle.session_law.proofs.Answered.{AnswersBehind}
 use Rattle.session_law.proofs.Words.{IsOrderly, unheard, heard}
 use Rattle.session_law.proofs.SessionStands.{Reached}
 use Rattle.session_law.proofs.SessionUnheard.{Unheard, unheard as unheard_session}
@@ -134,7 +135,7 @@ reached_told k r qs ms ns all told hs s e f x = record {
 
 -- what each session of an orderly connection was told, over what the store told and what of its bytes was pulled
 pub orderly_told : (k : EntryKeys) (boot c : ℕ) → AreKeys k.names → (acts : List Act) (told : List Message) (hs : List Heard) (s : Stand) (pulled waiting : List ℕ) → Talks k (all_asked c start acts) (out plain acts c) told → Ran k boot c hs s → Messages told (pulled ++ waiting)
-    → IsSide store_limit (store_frames hs) (bad_of_store hs) (EndsAtStore s.ending hs) pulled → AreBehind told hs → IsOrderly c acts s.items → IsTold k (all_asked c start acts) (out plain acts c) told hs s
+    → IsSide store_limit (store_frames hs) (bad_of_store hs) (EndsAtStore s.ending hs) pulled → AnswersBehind told hs → IsOrderly c acts s.items → IsTold k (all_asked c start acts) (out plain acts c) told hs s
 orderly_told k boot c w acts told hs s pulled waiting t ran spelled side behind (unheard e) =
     unheard_told k (all_asked c start acts) (out plain acts c) told hs s e (unheard_session k boot c told hs s pulled waiting (told_nothing k _ _ told t e) ran spelled side)
 orderly_told k boot c w acts told hs s pulled waiting t ran spelled side behind (heard r ms e quiet begun) =

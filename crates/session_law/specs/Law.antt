@@ -1,5 +1,5 @@
 -- The law over many sessions: over one store that follows the machine, and what the session of each connection heard.
-use Rattle.std.specs.Prelude.{◌≡◌, ◌<◌, ◌^◌, ◌<ℤ◌, ℕ, ℤ, suc, pos, List, [], ◌∷◌, ◌++◌, length, true, false, Option, Some, None, All}
+use Rattle.std.specs.Prelude.{◌≡◌, ◌≤◌, ◌<◌, ◌^◌, ◌<ℤ◌, ◌+◌, ◌==◌, if◌then◌else◌, ℕ, ℤ, pos, List, [], ◌∷◌, ◌++◌, length, map, true, false, Option, Some, None, All}
 use Rattle.jute_core.specs.Frames.{Stream}
 use Rattle.path_seal.specs.Sealed.{AreKeys}
 use Rattle.payload_seal.specs.Ivs.{payload_iv}
@@ -10,15 +10,15 @@ use Rattle.zk_messages.specs.declared.request.Request.{Request}
 use Rattle.request_rewrite.specs.Veil.{Veil}
 use Rattle.counter_enclave.specs.Enclave.{IsSealedName}
 use Rattle.tree_state.specs.declared.message.Message.{Message}
-use Rattle.tree_state.specs.declared.message.Message.TheVariants as messages
 use Rattle.tree_state.specs.Trees.{IsNaming}
 use Rattle.tree_state.specs.Plain.{plain}
 use Rattle.tree_state.specs.Changes.{Naming}
-use Rattle.tree_state.specs.Step.{Act}
+use Rattle.tree_state.specs.State.{State, start}
+use Rattle.tree_state.specs.Step.{Act, connects, asks as asking, loses, expires, step}
 use Rattle.sealed_machine.specs.Veils.{IsIvOf}
 use Rattle.tree_server.specs.Zips.{Zips}
 use Rattle.tree_server.specs.Messages.{Messages}
-use Rattle.tree_server.specs.Out.{out}
+use Rattle.tree_server.specs.Out.{to_connection, out}
 use Rattle.tree_server.specs.Orders.{Legal}
 use Rattle.tree_server.specs.Follows.{Past, Follows}
 use Rattle.tree_server.specs.declared.entry.Entry.{Entry}
@@ -43,25 +43,28 @@ pub record Connection : Type 0 where
   pub stand : Stand
   pub fed : List ℕ
 
--- an event answers nothing
-unfoldable pub answers : List Message → ℕ
-answers [] = 0
-answers (messages.Event e ∷ ms) = answers ms
-answers (messages.Reply r ∷ ms) = suc (answers ms)
-answers (messages.Connected r ∷ ms) = suc (answers ms)
+-- how many of connection c's connects and requests the act is
+unfoldable pub sent_by : ℕ → Act → ℕ
+sent_by c (connects d asked session now) = if d == c then 1 else 0
+sent_by c (asking d xid command now) = if d == c then 1 else 0
+sent_by c (loses d) = 0
+sent_by c (expires session now) = 0
 
-unfoldable pub IsAnswer : Message → Type 0
-IsAnswer (messages.Event e) = ⊥
-IsAnswer m = Unit {0}
+-- For each message that a run from this state sends to connection c, in order: how many connects and requests of c were taken by then, the
+-- act that sent it included, where n of them were taken before.
+unfoldable pub taken_at : Naming → State → ℕ → ℕ → List Act → List ℕ
+taken_at naming s c n [] = []
+taken_at naming s c n (act ∷ acts) =
+    map (λ (m : Message). n + sent_by c act) (to_connection c (step naming s act).outputs) ++ taken_at naming (step naming s act).state c (n + sent_by c act) acts
 
--- each answer of the store came after the frame that it answers
-unfoldable pub AreBehind : List Message → List Heard → Type 0
-AreBehind told [] = Unit {0}
-AreBehind told (from_store body ∷ hs) = ((done left : List Message) (m : Message) → told ≡ done ++ m ∷ left → length done ≡ length (store_frames hs) → IsAnswer m → answers done < length (client_frames hs)) × AreBehind told hs
-AreBehind told (from_client body ∷ hs) = AreBehind told hs
-AreBehind told (bad_client z ∷ hs) = AreBehind told hs
-AreBehind told (bad_store z ∷ hs) = AreBehind told hs
-AreBehind told (given e ∷ hs) = AreBehind told hs
+-- each frame of the store came after the frames of the client that had been taken when it was sent
+unfoldable pub AreBehind : List ℕ → List Heard → Type 0
+AreBehind counts [] = Unit {0}
+AreBehind counts (from_store body ∷ hs) = ((done left : List ℕ) (n : ℕ) → counts ≡ done ++ n ∷ left → length done ≡ length (store_frames hs) → n ≤ length (client_frames hs)) × AreBehind counts hs
+AreBehind counts (from_client body ∷ hs) = AreBehind counts hs
+AreBehind counts (bad_client z ∷ hs) = AreBehind counts hs
+AreBehind counts (bad_store z ∷ hs) = AreBehind counts hs
+AreBehind counts (given e ∷ hs) = AreBehind counts hs
 
 -- What joins connection c to its session and to the store.
 pub record IsJoined (k : EntryKeys) (boot c : ℕ) (past : Past) (x : Connection) (items : List Item) (under_way unfed : List ℕ) : Type 0 where
@@ -82,7 +85,6 @@ pub record IsJoined (k : EntryKeys) (boot c : ℕ) (past : Past) (x : Connection
   pub stream : Stream (bodies ++ more) partial x.fed
   pub spelled : SpellsItems true (items_in c past.order) bodies
   pub none_left : past.over c ≡ false → more ≡ []
-  pub behind : AreBehind (past.told c) x.heard
 
 -- ---- what follows
 
@@ -113,10 +115,11 @@ VeilsEntry k e f = e ≡ f
 -- What connection c comes to, where `plain_order` is the order filled with what the clients sent, and `acts` what it is to the plain machine.
 pub record IsServed (k : EntryKeys) (boot c : ℕ) (past : Past) (plain_order : List Entry) (acts : List Act) (x : Connection) (items : List Item) (under_way unfed : List ℕ) : Type 0 where
   -- The client received the first of the bytes that the plain machine sends it, one frame for each whole frame of the store that came to its
-  -- session, and nothing was found wrong with a reply.
+  -- session, each after the frames of its client that the machine had been asked when it sent it; and nothing was found wrong with a reply.
   pub left : List ℕ
   pub received : Messages (out plain acts c) (bytes_of x.stand.down ++ left)
   pub one_for_one : length x.stand.down ≡ length (store_frames x.heard)
+  pub in_turn : AreBehind (taken_at plain start c 0 acts) x.heard
   pub nothing_found : x.stand.findings ≡ []
   pub honest : IsHonestEnd x.stand.ending
   -- what was handed up are the first items that the client sent, veiled with IVs counted from 0
@@ -151,9 +154,10 @@ pub record Headline (k : EntryKeys) (boot : ℕ) (passwords : ℤ → List ℕ) 
   pub served : (c : ℕ) → IsServed k boot c past plain_order acts (x c) (items c) (under_way c) (unfed c)
 
 -- For every store that follows the machine with the names of a counter enclave under the same keys, and every connection joined to it, all of
--- one boot and each under its number at the store. It speaks of one moment, and holds at each.
+-- one boot and each under its number at the store, where no frame of the store came before what the store had taken when it sent it. It speaks of one moment, and holds at each.
 abbrev pub HoldsOverSessions : Type 0
 HoldsOverSessions = (k : EntryKeys) (boot : ℕ) (naming : Naming) (passwords : ℤ → List ℕ) (past : Past) (x : ℕ → Connection) (items : ℕ → List Item) (under_way unfed : ℕ → List ℕ)
     → AreKeys k.names → 0 < length k.payloads → IsNaming (IsSealedName k.names) naming → Follows naming passwords past
     → ((c : ℕ) → IsJoined k boot c past (x c) (items c) (under_way c) (unfed c))
+    → ((c : ℕ) → AreBehind (taken_at naming start c 0 past.acts) (x c).heard)
     → Headline k boot passwords past x items under_way unfed

@@ -1,7 +1,7 @@
-//! The law, and two rules by which a program meets one of its premises: that answers come after what they answer.
+//! The law, and a rule by which a program meets one of its premises: that frames of the store come after what it had taken.
 
 ghost use Rattle.session_law.specs.Law.{HoldsOverSessions};
-ghost use Rattle.session_law.specs.Laws.{AnswersEachEntry, StaysBehind};
+ghost use Rattle.session_law.specs.Laws.{StaysBehind};
 
 /// The law over many sessions. Over a store that follows the plain machine under the names of a counter enclave, and for every connection that is
 /// joined to it:
@@ -14,12 +14,7 @@ pub fn holds_over_sessions()
     ensures { HoldsOverSessions }
 {}
 
-/// Answers that came after what they answer did so, whatever the store tells later.
+/// Frames of the store that came after what it had taken did so, whatever it takes and sends later.
 pub fn stays_behind()
     ensures { StaysBehind }
-{}
-
-/// A store that follows the plain machine tells a connection one answer for each of its entries.
-pub fn answers_each_entry()
-    ensures { AnswersEachEntry }
 {}
