@@ -4,6 +4,8 @@
 #![tactic(auto)]
 
 mod ciphers;
+mod paths;
+mod requests;
 mod times;
 
 use std::{env, io};
@@ -19,5 +21,7 @@ fn main(rt: HostRuntime) -> io::Result<()> {
         println!(rt; "the word `run` asks for figures of speed")?;
         return Ok(());
     }
-    ciphers::print_figures(&rt)
+    ciphers::print_figures(&rt)?;
+    paths::print_figures(&rt)?;
+    requests::print_figures(&rt)
 }

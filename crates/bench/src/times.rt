@@ -1,6 +1,7 @@
 //! Five times of the same work, of which the third in order counts.
 
 use std::alloc::{AllocError, Global};
+use std::io;
 
 /// How often each work is timed.
 pub(crate) const RUNS: usize = 5;
@@ -32,4 +33,13 @@ impl Times {
             None => Ok(0),
         }
     }
+}
+
+/// Prints what took so many microseconds, in milliseconds.
+pub(crate) fn print_millis(rt: &HostRuntime, what: &str, micros: u128) -> io::Result<()> {
+    println!(rt;
+        "{what} in {}.{:02} ms",
+        micros / 1_000,
+        micros % 1_000 / 10
+    )
 }

@@ -6,3 +6,4 @@ pub mod NameBytes
 pub mod Apart
 pub mod Opened
 pub mod Decided
+pub mod LowerCase

@@ -1,5 +1,5 @@
 -- What opening gives, before it is asked whether that is legal.
-use Rattle.std.specs.Prelude.{◌≡◌, ◌≢◌, ℕ, List, [], ◌∷◌, ◌++◌, length, All}
+use Rattle.std.specs.Prelude.{◌≡◌, ◌≢◌, ◌≤◌, ℕ, List, [], ◌∷◌, ◌++◌, length, All}
 use Rattle.std.specs.Str.{IsUtf8}
 use Rattle.zk_path.specs.Paths.{HasNoSlash, joined}
 use Rattle.path_seal.specs.Sealed.{Keys, SealName, SealStem}
@@ -37,3 +37,7 @@ pub record IsPlainOf (k : Keys) (text plain : List ℕ) : Type 0 where
   pub whole : IsSealedOf k text parts
   pub only : (p : List (List ℕ)) → IsSealedOf k text p → p ≡ parts
   pub spelled : plain ≡ joined parts
+
+-- a hex digit in upper case
+abbrev pub IsUpper : ℕ → Type 0
+IsUpper c = (65 ≤ c) × (c ≤ 70)

@@ -13,6 +13,7 @@
 
 ghost use Rattle.path_seal.specs.Laws.{SealsPathsApart, SealsStemsApart};
 
+mod hex_text;
 mod keys;
 mod opening;
 mod sealing;

@@ -2,7 +2,6 @@
 
 ghost use Rattle.std.specs.Prelude.{◌≡◌, ◌≤◌, ◌<◌, ◌↔◌, ◌+◌, ◌^◌, ℕ, List, Ok, true, false, length, string_bytes, IfOk, IfSome, IfNone, IsTrue, MatchOption};
 ghost use Rattle.aes_block.specs.Laws.{IsBytes};
-ghost use Rattle.hex.specs.Hex.{encode_lower};
 ghost use Rattle.zk_path.specs.Paths.{HasNoSlash, IsComponent, joined, text_of};
 ghost use Rattle.path_seal.specs.Sealed.{SealName, OpensName, Opens, OpensStem};
 ghost use Rattle.path_seal.specs.Names.{IsCut, IsName, AppendsName, IsPlainOf, IsSealedOf};
@@ -10,32 +9,9 @@ ghost use Rattle.path_seal.specs.Under.{IsUnder, IsUnderOne};
 
 use crate::keys::NameKeys;
 use crate::under::NamesUnder;
-use hex::FromHexError;
 use jute_core::{Memory, Text};
 use std::alloc::Global;
 use zk_path::{NotPath, Path, check_path, read_path, read_stem};
-
-/// The bytes that a text spells in lower-case hex.
-pub(crate) fn bytes_of(alloc: Global, text: &str) -> Result<Option<Vec<u8>>, Memory>
-    ensures some { IfOk result (λ found. IfSome found (λ bytes. encode_lower bytes.items ≡ text.now)) }
-    ensures one { IfOk result (λ found. IfSome found (λ bytes. (b : List ℕ) → IsBytes b → encode_lower b ≡ text.now → bytes.items ≡ b)) }
-    ensures none { IfOk result (λ found. IfNone found ((b : List ℕ) → IsBytes b → encode_lower b ≡ text.now → ⊥)) }
-{
-    let bytes = match hex::decode(alloc, text) {
-        Ok(bytes) => bytes,
-        Err(fault) => match fault {
-            FromHexError::OutOfMemory => return Err(Memory),
-            _ => return Ok(None),
-        },
-    };
-    // Digits in upper case were read too.
-    let again = hex::encode(alloc, bytes.as_slice())?;
-    if again.as_str() == text {
-        Ok(Some(bytes))
-    } else {
-        Ok(None)
-    }
-}
 
 /// The IV, the ciphertext and the tag.
 pub(crate) fn parts_of(bytes: &[u8]) -> Option<(&[u8; 12], &[u8], &[u8; 16])>
@@ -51,6 +27,7 @@ fn push_opened(
     alloc: Global,
     keys: &NameKeys,
     text: &str,
+    bytes: &mut Vec<u8>,
     under: &mut NamesUnder,
     plain: &mut String,
 ) -> Result<bool, Memory>
@@ -62,7 +39,7 @@ fn push_opened(
         → IsName n → SealName keys.now p n ≡ text.now → ⊥ }
     ensures key { IsBytes keys.now.key }
 {
-    let Some(name) = under.opened(alloc, keys, text)? else {
+    let Some(name) = under.opened(alloc, keys, text, bytes)? else {
         return Ok(false);
     };
     plain.push('/')?;
@@ -82,15 +59,16 @@ fn opened_text(alloc: Global, keys: &NameKeys, text: &str) -> Result<Option<Stri
         return Ok(None);
     };
     let mut plain = String::new(alloc);
+    let mut bytes = Vec::new(alloc);
     let root = Path::root(alloc);
     let mut under = NamesUnder::new(keys, &root);
     while let Some((sealed, after)) = rest.split_once('/') {
-        if !push_opened(alloc, keys, sealed, &mut under, &mut plain)? {
+        if !push_opened(alloc, keys, sealed, &mut bytes, &mut under, &mut plain)? {
             return Ok(None);
         }
         rest = after;
     }
-    if !push_opened(alloc, keys, rest, &mut under, &mut plain)? {
+    if !push_opened(alloc, keys, rest, &mut bytes, &mut under, &mut plain)? {
         return Ok(None);
     }
     Ok(Some(plain))
@@ -105,7 +83,8 @@ pub(crate) fn is_component(alloc: Global, name: &str) -> Result<bool, Memory>
     if name.is_empty() {
         return Ok(false);
     }
-    let mut text = String::from_str(alloc, "/")?;
+    let mut text = String::with_capacity(alloc, name.len() + 1)?;
+    text.push('/')?;
     text.push_str(name)?;
     Ok(check_path(text.as_str()).is_none())
 }

@@ -6,7 +6,7 @@ ghost use Rattle.path_seal.specs.Sealed.{SealName, SealPath};
 ghost use Rattle.path_seal.specs.Under.{IsUnder, IsUnderOne};
 
 use crate::keys::NameKeys;
-use crate::under::NamesUnder;
+use crate::under::{NamesUnder, Room};
 use jute_core::{Memory, Text};
 use std::alloc::Global;
 use zk_path::Path;
@@ -57,10 +57,10 @@ pub fn seal_name(alloc: Global, keys: &NameKeys, parent: &Path, name: &str) -> R
 
 // Appends a slash and the sealed text of a name.
 fn push_sealed(
-    alloc: Global,
     keys: &NameKeys,
     under: &NamesUnder,
     name: &str,
+    room: &mut Room,
     into: &mut String,
 ) -> Result<(), Memory>
     requires parent { IsUnderOne keys.now under.now }
@@ -69,7 +69,7 @@ fn push_sealed(
         → OnOk result (string_bytes into.new ≡ string_bytes into.old ++ 47 ∷ SealName keys.now p name.now) }
 {
     into.push('/')?;
-    under.seal(alloc, keys, name, into)?;
+    under.seal_through(keys, name, room, into)?;
     Ok(())
 }
 
@@ -86,13 +86,14 @@ pub fn seal_path(alloc: Global, keys: &NameKeys, path: &Path) -> Result<Text, Me
         return Text::copy_of(alloc, "/");
     };
     let mut sealed = String::new(alloc);
+    let mut room = Room::new(alloc);
     let root = Path::root(alloc);
     let mut under = NamesUnder::new(keys, &root);
     while let Some((name, after)) = rest.split_once('/') {
-        push_sealed(alloc, keys, &under, name, &mut sealed)?;
+        push_sealed(keys, &under, name, &mut room, &mut sealed)?;
         under.step(keys, name);
         rest = after;
     }
-    push_sealed(alloc, keys, &under, rest, &mut sealed)?;
+    push_sealed(keys, &under, rest, &mut room, &mut sealed)?;
     Ok(Text::of(sealed))
 }

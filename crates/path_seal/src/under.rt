@@ -11,8 +11,9 @@ ghost use Rattle.path_seal.specs.Sealed.{Keys, name_iv, sealed_bytes, SealName, 
 ghost use Rattle.path_seal.specs.Names.{IsName};
 ghost use Rattle.path_seal.specs.Under.{IsUnder, IsUnderOne};
 
+use crate::hex_text::{push_hex, read_hex};
 use crate::keys::NameKeys;
-use crate::opening::{bytes_of, is_component, parts_of};
+use crate::opening::{is_component, parts_of};
 use crate::sealing::{above_of, parent_text};
 use gcm_mode::{Absorbed, GcmFault, seal_absorbed, unseal_absorbed};
 use jute_core::{Memory, Text};
@@ -35,6 +36,24 @@ pub struct NamesUnder {
     text: Absorbed,
     // the path's text with each component after a slash, and a slash
     ahead: Absorbed,
+}
+
+/// Memory that names are sealed through, one after another.
+#[derive(Drop)]
+pub(crate) struct Room {
+    // what a name is sealed to
+    bytes: Vec<u8>,
+    // that in hex
+    digits: Vec<u8>,
+}
+
+impl Room {
+    pub(crate) fn new(alloc: Global) -> Room {
+        Room {
+            bytes: Vec::new(alloc),
+            digits: Vec::new(alloc),
+        }
+    }
 }
 
 // The salt, the text and a slash, hashed.
@@ -115,22 +134,40 @@ impl NamesUnder {
         iv
     }
 
-    // The IV, the ciphertext and the tag of a name.
-    fn sealed(&self, alloc: Global, keys: &NameKeys, name: &[u8]) -> Result<Vec<u8>, Memory>
+    // The IV, the ciphertext and the tag of a name, in place of what the buffer had.
+    fn seal_bytes(&self, keys: &NameKeys, name: &[u8], bytes: &mut Vec<u8>) -> Result<(), Memory>
         requires parent { IsUnderOne keys.now self.now }
         requires name { length name.now ≤ 2 ^ 28 }
-        ensures { IfOk result (λ bytes. (p : List (List ℕ)) → IsUnder keys.now p self.now
-            → bytes.items ≡ sealed_bytes keys.now p name.now) }
+        ensures { (p : List (List ℕ)) → IsUnder keys.now p self.now
+            → OnOk result (bytes.new.items ≡ sealed_bytes keys.now p name.now) }
     {
         let iv = self.iv_of(name);
-        let mut bytes = Vec::with_capacity(alloc, name.len() + 28)?;
+        bytes.clear();
         bytes.extend_from_slice(&iv)?;
-        match seal_absorbed(keys.key(), &iv, &self.text, name, &mut bytes) {
-            Ok(()) => Ok(bytes),
+        match seal_absorbed(keys.key(), &iv, &self.text, name, bytes) {
+            Ok(()) => Ok(()),
             Err(GcmFault::Memory) => Err(Memory),
             // Neither text is too long.
             Err(GcmFault::TooLong { length: _ }) => unreachable!(),
         }
+    }
+
+    /// Appends the sealed text of a name, through memory that serves one name after another.
+    pub(crate) fn seal_through(
+        &self,
+        keys: &NameKeys,
+        name: &str,
+        room: &mut Room,
+        into: &mut String,
+    ) -> Result<(), Memory>
+        requires parent { IsUnderOne keys.now self.now }
+        requires name { length name.now ≤ 2 ^ 28 }
+        ensures { (p : List (List ℕ)) → IsUnder keys.now p self.now
+            → OnOk result (string_bytes into.new ≡ string_bytes into.old ++ SealName keys.now p name.now) }
+    {
+        self.seal_bytes(keys, name.as_bytes(), &mut room.bytes)?;
+        push_hex(room.bytes.as_slice(), &mut room.digits, into)?;
+        Ok(())
     }
 
     /// Appends the sealed text of a name: 56 characters, and two for each byte of the name.
@@ -146,10 +183,8 @@ impl NamesUnder {
         ensures { (p : List (List ℕ)) → IsUnder keys.now p self.now
             → OnOk result (string_bytes into.new ≡ string_bytes into.old ++ SealName keys.now p name.now) }
     {
-        let bytes = self.sealed(alloc, keys, name.as_bytes())?;
-        let text = hex::encode(alloc, bytes.as_slice())?;
-        into.push_str(text.as_str())?;
-        Ok(())
+        let mut room = Room::new(alloc);
+        self.seal_through(keys, name, &mut room, into)
     }
 
     // The name that a ciphertext and a tag open to.
@@ -182,12 +217,14 @@ impl NamesUnder {
         }
     }
 
-    /// The name without a slash, legal or not, that a text opens to.
+    /// The name without a slash, legal or not, that a text opens to. What the text spells is read into
+    /// `bytes`, in place of what that had.
     pub(crate) fn opened(
         &self,
         alloc: Global,
         keys: &NameKeys,
         text: &str,
+        bytes: &mut Vec<u8>,
     ) -> Result<Option<String>, Memory>
         requires parent { IsUnderOne keys.now self.now }
         requires text { length text.now ≤ 2 ^ 28 }
@@ -198,9 +235,9 @@ impl NamesUnder {
         ensures key { IsBytes keys.now.key }
     {
         keys.are_keys();
-        let Some(bytes) = bytes_of(alloc, text)? else {
+        if !read_hex(text, bytes)? {
             return Ok(None);
-        };
+        }
         let Some((iv, sealed, tag)) = parts_of(bytes.as_slice()) else {
             return Ok(None);
         };
@@ -226,7 +263,8 @@ impl NamesUnder {
         ensures none { IfOk result (λ found. IfNone found ((p : List (List ℕ)) (n : List ℕ) → IsUnder keys.now p self.now
             → OpensName keys.now p text.now n → ⊥)) }
     {
-        let Some(name) = self.opened(alloc, keys, text)? else {
+        let mut bytes = Vec::new(alloc);
+        let Some(name) = self.opened(alloc, keys, text, &mut bytes)? else {
             return Ok(None);
         };
         if is_component(alloc, name.as_str())? {

@@ -7,7 +7,7 @@ ghost use Rattle.request_rewrite.specs.Ivs.{IsForGreatest, ivs_from, ivs_of_op, 
 ghost use Rattle.zk_messages.specs.Short.{HasShortOpParts};
 ghost use Rattle.request_rewrite.specs.Veil.{IsAllowedOp, VeilsOp, VeilsOps};
 
-use crate::records::{veil_check, veil_create, veil_delete, veil_set_content};
+use crate::records::{veil_check, veil_create_op, veil_delete, veil_set_content};
 use jute_core::Memory;
 use payload_seal::{EntryKeys, IvSource};
 use request_queue::AskedOp;
@@ -57,7 +57,7 @@ fn veil_op(
 {
     match op {
         Op::Create(create) => {
-            let veiled = veil_create(alloc, keys, ivs.ahead(used), create)?;
+            let veiled = veil_create_op(alloc, keys, ivs.ahead(used), create)?;
             let asked = AskedOp::Create {
                 path: veiled.path,
                 sequential: veiled.sequential,
@@ -68,7 +68,7 @@ fn veil_op(
             })
         }
         Op::Create2(create) => {
-            let veiled = veil_create(alloc, keys, ivs.ahead(used), create)?;
+            let veiled = veil_create_op(alloc, keys, ivs.ahead(used), create)?;
             let asked = AskedOp::Create2 {
                 path: veiled.path,
                 sequential: veiled.sequential,

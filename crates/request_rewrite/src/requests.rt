@@ -41,13 +41,13 @@ pub(crate) fn veil_create(
     alloc: Global,
     keys: &EntryKeys,
     iv: [u8; 12],
-    request: &CreateRequest,
+    request: CreateRequest,
 ) -> Result<Veiled, Memory>
     requires epoch { epoch_of iv < length keys.now.payloads }
-    requires allowed { RefusesCreate request.now None }
-    requires path { IsShort request.now.path }
-    requires content { IsShortContent request.now.content }
-    ensures { IfOk result (λ x. Turns keys.now (iv ∷ []) (requests.Create request.now) x.request x.asked) }
+    requires allowed { RefusesCreate request None }
+    requires path { IsShort request.path }
+    requires content { IsShortContent request.content }
+    ensures { IfOk result (λ x. Turns keys.now (iv ∷ []) (requests.Create request) x.request x.asked) }
 {
     let veiled = veil_create_record(alloc, keys, iv, request)?;
     Ok(Veiled {
@@ -64,13 +64,13 @@ pub(crate) fn veil_create2(
     alloc: Global,
     keys: &EntryKeys,
     iv: [u8; 12],
-    request: &CreateRequest,
+    request: CreateRequest,
 ) -> Result<Veiled, Memory>
     requires epoch { epoch_of iv < length keys.now.payloads }
-    requires allowed { RefusesCreate request.now None }
-    requires path { IsShort request.now.path }
-    requires content { IsShortContent request.now.content }
-    ensures { IfOk result (λ x. Turns keys.now (iv ∷ []) (requests.Create2 request.now) x.request x.asked) }
+    requires allowed { RefusesCreate request None }
+    requires path { IsShort request.path }
+    requires content { IsShortContent request.content }
+    ensures { IfOk result (λ x. Turns keys.now (iv ∷ []) (requests.Create2 request) x.request x.asked) }
 {
     let veiled = veil_create_record(alloc, keys, iv, request)?;
     Ok(Veiled {
@@ -225,11 +225,11 @@ pub(crate) fn veil_sync(
 pub(crate) fn veil_set_acl(
     alloc: Global,
     keys: &EntryKeys,
-    request: &SetAclRequest,
+    request: SetAclRequest,
 ) -> Result<Veiled, Memory>
-    requires allowed { RefusesSetAcl request.now None }
-    requires short { IsShort request.now.path }
-    ensures { IfOk result (λ x. Turns keys.now [] (requests.SetAcl request.now) x.request x.asked) }
+    requires allowed { RefusesSetAcl request None }
+    requires short { IsShort request.path }
+    ensures { IfOk result (λ x. Turns keys.now [] (requests.SetAcl request) x.request x.asked) }
 {
     let (request, path) = veil_set_acl_record(alloc, &keys.names, request)?;
     Ok(Veiled {

@@ -105,7 +105,7 @@ fn first_form(alloc: Global, body: &str) -> Result<(Request, Pending), Fail> {
     let keys = read_keys(&FILE)?;
     let mut ivs = IvSource::new(keys.payloads.epoch(), 0, 1);
     let request = request_in(alloc, body)?;
-    Ok(veil_request(alloc, &keys, &mut ivs, 7, 56, &request)?)
+    Ok(veil_request(alloc, &keys, &mut ivs, 7, 56, request)?)
 }
 
 fn is_create(veiled: &Request, sealed: &str, payload: &[u8], flags: i32) -> bool {
@@ -208,11 +208,11 @@ fn the_last_iv_seals_one_create_and_not_two(rt: HostRuntime) -> Result<(), Fail>
     let keys = read_keys(&FILE)?;
     let mut ivs = IvSource::starting(keys.payloads.epoch(), 0, 1, 4_294_967_295);
     let two = request_in(alloc, TWO_CREATES)?;
-    let spent = veil_request(alloc, &keys, &mut ivs, 1, 99, &two).err();
+    let spent = veil_request(alloc, &keys, &mut ivs, 1, 99, two).err();
     assert_eq!(rt; spent, Some(NotVeiled::Spent));
     assert_eq!(rt; ivs.left(), 1);
     let one = request_in(alloc, CREATE_APP)?;
-    assert!(rt; veil_request(alloc, &keys, &mut ivs, 2, 56, &one).is_ok());
+    assert!(rt; veil_request(alloc, &keys, &mut ivs, 2, 56, one).is_ok());
     assert_eq!(rt; ivs.left(), 0);
     Ok(())
 }
@@ -224,8 +224,9 @@ fn each_type_is_veiled(rt: HostRuntime) -> Result<(), Fail> {
     for (body, payloads) in EACH_TYPE {
         let mut ivs = IvSource::new(keys.payloads.epoch(), 0, 1);
         let request = request_in(alloc, body)?;
-        let (veiled, pending) = veil_request(alloc, &keys, &mut ivs, 3, 99, &request)?;
-        assert!(rt; veiled.kind() == request.kind());
+        let kind = request.kind();
+        let (veiled, pending) = veil_request(alloc, &keys, &mut ivs, 3, 99, request)?;
+        assert!(rt; veiled.kind() == kind);
         assert!(rt; !matches!(&pending.asked, Asked::Refused { .. }));
         assert_eq!(rt; ivs.left(), 4_294_967_296 - u64::from(payloads));
     }

@@ -80,29 +80,29 @@ fn veil_allowed(
     alloc: Global,
     keys: &EntryKeys,
     ivs: &IvSource,
-    request: &Request,
+    request: Request,
 ) -> Result<Veiled, Memory>
     requires epoch { IsForGreatest keys.now.payloads ivs.now }
-    requires allowed { Refuses request.now None }
-    requires short { HasShortParts request.now }
-    requires left { ivs.now.count + payloads_of request.now ≤ 2 ^ 32 }
-    ensures { IfOk result (λ x. Turns keys.now (ivs_from ivs.now (payloads_of request.now)) request.now x.request x.asked) }
+    requires allowed { Refuses request None }
+    requires short { HasShortParts request }
+    requires left { ivs.now.count + payloads_of request ≤ 2 ^ 32 }
+    ensures { IfOk result (λ x. Turns keys.now (ivs_from ivs.now (payloads_of request)) request x.request x.asked) }
 {
     match request {
         Request::Create(request) => veil_create(alloc, keys, ivs.ahead(0), request),
         Request::Create2(request) => veil_create2(alloc, keys, ivs.ahead(0), request),
-        Request::Delete(request) => veil_delete(alloc, keys, request),
-        Request::Exists(request) => veil_exists(alloc, keys, request),
-        Request::GetContent(request) => veil_get_content(alloc, keys, request),
-        Request::SetContent(request) => veil_set_content(alloc, keys, ivs.ahead(0), request),
-        Request::GetAcl(request) => veil_get_acl(alloc, keys, request),
+        Request::Delete(request) => veil_delete(alloc, keys, &request),
+        Request::Exists(request) => veil_exists(alloc, keys, &request),
+        Request::GetContent(request) => veil_get_content(alloc, keys, &request),
+        Request::SetContent(request) => veil_set_content(alloc, keys, ivs.ahead(0), &request),
+        Request::GetAcl(request) => veil_get_acl(alloc, keys, &request),
         Request::SetAcl(request) => veil_set_acl(alloc, keys, request),
-        Request::GetChildren(request) => veil_get_children(alloc, keys, request),
-        Request::GetChildren2(request) => veil_get_children2(alloc, keys, request),
-        Request::Sync(request) => veil_sync(alloc, keys, request),
+        Request::GetChildren(request) => veil_get_children(alloc, keys, &request),
+        Request::GetChildren2(request) => veil_get_children2(alloc, keys, &request),
+        Request::Sync(request) => veil_sync(alloc, keys, &request),
         Request::Ping => Ok(veil_ping()),
-        Request::Multi(ops) => veil_multi(alloc, keys, ivs, ops),
-        Request::SetWatches(request) => veil_watches(alloc, keys, request),
+        Request::Multi(ops) => veil_multi(alloc, keys, ivs, &ops),
+        Request::SetWatches(request) => veil_watches(alloc, keys, &request),
         Request::Close => Ok(veil_close()),
         // These are refused.
         Request::Auth(_) | Request::Unknown { .. } => unreachable!(),
@@ -123,27 +123,27 @@ fn form_of(
     alloc: Global,
     keys: &EntryKeys,
     ivs: &IvSource,
-    request: &Request,
+    request: Request,
 ) -> Result<Form, NotVeiled>
     requires epoch { IsForGreatest keys.now.payloads ivs.now }
-    requires short { HasShortParts request.now }
-    ensures number { (n : ℕ) × PayloadsOf request.now n }
-    ensures counted { IfOk result (λ x. PayloadsOf request.now x.payloads) }
+    requires short { HasShortParts request }
+    ensures number { (n : ℕ) × PayloadsOf request n }
+    ensures counted { IfOk result (λ x. PayloadsOf request x.payloads) }
     ensures left { IfOk result (λ x. ivs.now.count + x.payloads ≤ 2 ^ 32) }
-    ensures veiled { IfOk result (λ x. Veil keys.now (ivs_from ivs.now x.payloads) request.now x.request) }
-    ensures asks { IfOk result (λ x. Asks request.now x.asked) }
-    ensures spent { result ≡ Err NotVeiled.Spent → (n : ℕ) → PayloadsOf request.now n → 2 ^ 32 < ivs.now.count + n }
-    ensures memory { result ≡ Err NotVeiled.Memory → (n : ℕ) → PayloadsOf request.now n → ivs.now.count + n ≤ 2 ^ 32 }
+    ensures veiled { IfOk result (λ x. Veil keys.now (ivs_from ivs.now x.payloads) request x.request) }
+    ensures asks { IfOk result (λ x. Asks request x.asked) }
+    ensures spent { result ≡ Err NotVeiled.Spent → (n : ℕ) → PayloadsOf request n → 2 ^ 32 < ivs.now.count + n }
+    ensures memory { result ≡ Err NotVeiled.Memory → (n : ℕ) → PayloadsOf request n → ivs.now.count + n ≤ 2 ^ 32 }
 {
     let left = ivs.left();
-    if let Some(code) = refusal_of(request) {
+    if let Some(code) = refusal_of(&request) {
         return Ok(Form {
             request: stand_in(alloc)?,
             asked: Asked::Refused { code },
             payloads: 0,
         });
     }
-    let payloads = payloads_of(request);
+    let payloads = payloads_of(&request);
     if left < payloads {
         return Err(NotVeiled::Spent);
     }
@@ -160,12 +160,12 @@ fn form_of(
 /// Each name and each payload is sealed, and all else is as it was; a payload takes the next IV of the connection. A request
 /// that is refused becomes `exists "/"` without watch, so that its answer keeps its turn, and takes no IV. Each text and
 /// buffer of the request has at most 134,217,728 bytes, and the IVs are for the greatest epoch of the keys, under whose key each
-/// payload is sealed. Linear in them, but for what sealing a path costs; each is copied
-/// at most once besides.
+/// payload is sealed. Linear in them: each is read, and sealed into memory of its own. Its ACLs move, but those within a
+/// multi, and the path that is kept is copied once.
 ///
 /// # Errors
 /// `Spent` exactly where fewer IVs are left than the request has payloads. No IV is taken after an error: those that were
-/// looked at have sealed nothing that is handed out.
+/// looked at have sealed nothing that is handed out. The request is dropped then.
 #[tactic(auto, using(crate::proofs::Whole::counts))]
 pub fn veil_request(
     alloc: Global,
@@ -173,23 +173,23 @@ pub fn veil_request(
     ivs: &mut IvSource,
     xid: i32,
     bytes: u32,
-    request: &Request,
+    request: Request,
 ) -> Result<(Request, Pending), NotVeiled>
     requires epoch { IsForGreatest keys.now.payloads ivs.old }
-    requires short { HasShortParts request.now }
+    requires short { HasShortParts request }
     // What the store is handed, and which IVs that took.
-    ensures veiled { (n : ℕ) → PayloadsOf request.now n → IfOk result (λ x. Veil keys.now (ivs_from ivs.old n) request.now x.0) }
-    ensures taken { (n : ℕ) → PayloadsOf request.now n → OnOk result (ivs.new ≡ record ivs.old { count = ivs.old.count + n }) }
-    ensures counted { (n : ℕ) × PayloadsOf request.now n }
+    ensures veiled { (n : ℕ) → PayloadsOf request n → IfOk result (λ x. Veil keys.now (ivs_from ivs.old n) request x.0) }
+    ensures taken { (n : ℕ) → PayloadsOf request n → OnOk result (ivs.new ≡ record ivs.old { count = ivs.old.count + n }) }
+    ensures counted { (n : ℕ) × PayloadsOf request n }
 
     // What waits for the reply.
     ensures xid { IfOk result (λ x. x.1.xid ≡ xid) }
     ensures bytes { IfOk result (λ x. x.1.bytes ≡ bytes) }
-    ensures asks { IfOk result (λ x. Asks request.now x.1.asked) }
+    ensures asks { IfOk result (λ x. Asks request x.1.asked) }
     ensures asked { IfOk result (λ x. IsAsked x.1.asked) }
 
     // Errors.
-    ensures spent { (n : ℕ) → PayloadsOf request.now n → (result ≡ Err NotVeiled.Spent) ↔ (2 ^ 32 < ivs.old.count + n) }
+    ensures spent { (n : ℕ) → PayloadsOf request n → (result ≡ Err NotVeiled.Spent) ↔ (2 ^ 32 < ivs.old.count + n) }
     ensures kept { OnErr result (ivs.new ≡ ivs.old) }
 {
     let form = form_of(alloc, keys, ivs, request)?;

@@ -1,7 +1,7 @@
 use Rattle.std.proofs.Common.{List, ℕ, ◌++◌, ◌∙◌, ap, Err}
 use Rattle.zk_path.specs.Paths.{text_of}
 use Rattle.path_seal.proofs.Forms.{bytes_are, none_passed}
-use Rattle.path_seal.proofs.under.NamesUnder.sealed.Goals as goal
+use Rattle.path_seal.proofs.under.NamesUnder.seal_bytes.Goals as goal
 
 pub unreachable-requires : goal.unreachable-requires
 unreachable-requires c =
@@ -12,5 +12,5 @@ unreachable-requires c =
 pub returns-in-Ok : goal.returns-in-Ok
 returns-in-Ok c p h =
     bytes_are c.args.keys.now _ _ _ c.args.name.now p (c.iv_of-iv.ensures c.args.keys.now p h)
-    (c.in_ok-extend_from_slice.ensures.items ∙ ap (λ (l : List ℕ). l ++ c.iv_of-iv.result) c.in_ok-bytes.ensures.items)
+    (c.in_ok-extend_from_slice.ensures.items ∙ ap (λ (l : List ℕ). l ++ c.iv_of-iv.result) c.clear.ensures.items)
     ((rw c.key.ensures.value at c.in-Ok.ensures.ok) (text_of p) h.text)
