@@ -14,3 +14,4 @@ pub mod Judging
 pub mod Some
 pub mod PassedOn
 pub mod WhenRead
+pub mod NoLonger

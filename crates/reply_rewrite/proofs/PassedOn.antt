@@ -65,7 +65,7 @@ outcome_shaped k asked stored told cause h = stored_shaped k asked stored told c
 
 -- ---- lengths
 
-path_shorter : (k : Keys) (p : List (List ℕ)) → length (text_of p) ≤ length (SealPath k p)
+pub path_shorter : (k : Keys) (p : List (List ℕ)) → length (text_of p) ≤ length (SealPath k p)
 unfolding text_of sealed
 path_shorter k [] = omega arith
 path_shorter k (n ∷ p) = joined_shorter k (n ∷ p)
@@ -76,7 +76,7 @@ created_short k asked sequential text plain h l = omega (arith, l, ap length h.s
 synced_short : (k : Keys) (path : List (List ℕ)) (text plain : List ℕ) → IsSynced k path text plain → length text < 2 ^ 31 → length plain < 2 ^ 31
 synced_short k path text plain h l = omega (arith, l, ap length h.spelled, ap length h.opened.1, path_shorter k path)
 
-accepted_shorter : (keys path : List (List ℕ)) (payload : List ℕ) (content : Option (List ℕ)) → Accepts keys path payload content → length (content_of content) ≤ length payload
+pub accepted_shorter : (keys path : List (List ℕ)) (payload : List ℕ) (content : Option (List ℕ)) → Accepts keys path payload content → length (content_of content) ≤ length payload
 accepted_shorter keys path payload content h =
     let one_more : length (h.digest ++ content_of content) < length payload = omega (arith, opened_size h.opened) in
     omega (arith, one_more, length-append h.digest (content_of content))

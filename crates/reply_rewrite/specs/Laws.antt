@@ -26,3 +26,9 @@ pub record IsPassedOn : Type 0 where
 -- the reply that a body of at most 2 ^ 27 bytes spells has its shape, and short parts
 abbrev pub IsShortWhenRead : Type 0
 IsShortWhenRead = (shape : Shape) (r : Reply) (body : List ℕ) → length body ≤ 2 ^ 27 → SpellsReply shape r body → HasShape shape r.outcome × HasShortParts r.outcome
+
+-- what is passed on is no longer than what the store answered: contents and names are shorter than what they are sealed to, and
+-- an error has no more than the header of each reply
+abbrev pub IsNoLongerWhenPlain : Type 0
+IsNoLongerWhenPlain = (k : EntryKeys) (asked : Asked) (stored told : Reply) (cause : Option Cause) (a b : List ℕ)
+    → Admits k asked stored told cause → SpellsReply (shape_for asked) stored a → SpellsReply (shape_for asked) told b → length b ≤ length a

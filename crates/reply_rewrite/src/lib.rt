@@ -9,7 +9,7 @@
 //! Read [`Cause`] first, then [`unveil_reply`], then the laws at the end of this file.
 #![tactic(auto)]
 
-ghost use Rattle.reply_rewrite.specs.Laws.{IsAdmittedOnce, IsPassedOn, IsShortWhenRead};
+ghost use Rattle.reply_rewrite.specs.Laws.{IsAdmittedOnce, IsPassedOn, IsShortWhenRead, IsNoLongerWhenPlain};
 
 mod children;
 mod content;
@@ -40,6 +40,11 @@ pub fn passed_on()
 /// [`unveil_reply`].
 pub fn short_when_read()
     ensures { IsShortWhenRead }
+{}
+
+/// The law that the reply that is passed on is spelled by no more bytes than the store's. So a frame has room for it.
+pub fn no_longer_when_plain()
+    ensures { IsNoLongerWhenPlain }
 {}
 
 #[cfg(test)]

@@ -4,8 +4,8 @@ use Rattle.std.specs.Prelude.{◌<ℤ◌}
 use Rattle.std.proofs.lemmas.Int.{ints}
 use Rattle.jute_core.specs.Frames.{frame, IsRest}
 use Rattle.jute_core.specs.Jute.{IsInt}
-use Rattle.zk_frame.specs.Framing.{Takes}
-use Rattle.zk_frame.specs.Kept.{kept, IsKept}
+use Rattle.zk_frame.specs.Framing.{IsWhole}
+use Rattle.zk_frame.specs.Kept.{IsKept}
 use Rattle.zk_frame.proofs.Prefixes.{int_of_frame, frame_length}
 use Rattle.zk_frame.proofs.Keeping.{all_taken, no_body, held_length}
 use Rattle.zk_frame.proofs.Feeding.{room_whole}
@@ -41,13 +41,7 @@ short_rest limit filled prefix body size len k full is l far = λ whole more fit
     let held : length body ≡ length whole + length more = omega (arith, ap length r.1, length-append whole more) in
     far (omega (arith, l, same, held, no_more limit filled prefix body size k is.0))
 
--- a whole one is handed out
-pub takes : (limit filled : ℕ) (prefix body result after : List ℕ) (size len : ℕ) → IsKept limit filled prefix body → 4 ≤ filled → IsInt (pos size) prefix × (size ≤ limit) → len ≡ length body → size ≡ len → result ≡ body → after ≡ [] → Takes (kept limit filled prefix body) (kept limit 0 prefix after) result
-takes limit filled prefix body result after size len k full is l same e none =
-    let left = all_prefix limit filled prefix body k full in
-    let whole = room_whole limit prefix body size filled left is.0 is.1 (omega arith) in
-    let t : Takes (kept limit filled prefix body) (kept limit 0 prefix after) body = record {
-      waited = whole;
-      rest = ap (λ (b : List ℕ). kept limit 0 prefix b) none;
-    } in
-    subst (λ (b : List ℕ). Takes (kept limit filled prefix body) (kept limit 0 prefix after) b) (sym e) t
+-- a whole one waits
+pub waits : (limit filled : ℕ) (prefix body : List ℕ) (size : ℕ) → IsKept limit filled prefix body → 4 ≤ filled → IsInt (pos size) prefix × (size ≤ limit) → size ≡ length body → IsWhole limit (take filled prefix ++ body) body
+waits limit filled prefix body size k full is same =
+    room_whole limit prefix body size filled (all_prefix limit filled prefix body k full) is.0 is.1 (omega arith)

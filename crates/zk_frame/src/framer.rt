@@ -1,11 +1,11 @@
 //! A framer takes bytes as they come, and hands out whole frames.
 
 ghost use Rattle.std.specs.Prelude.{◌≡◌, ◌⊎◌, ◌↔◌, ◌<ℤ◌, ℕ, ℤ, pos};
-ghost use Rattle.std.specs.Prelude.{◌+◌, ◌-◌, ◌<◌, ◌≤◌, ◌++◌, [], length, take, min, Ok, Err, IfOk, IfErr, IfSome, IfNone, OnErr};
+ghost use Rattle.std.specs.Prelude.{◌+◌, ◌-◌, ◌<◌, ◌≤◌, ◌++◌, List, [], length, take, min, false, Ok, Err, IfOk, IfErr, IfSome, IfNone, OnErr, IsTrue};
 ghost use Rattle.jute_core.specs.Frames.{IsRest};
 ghost use Rattle.jute_core.specs.Jute.{IsInt};
-ghost use Rattle.zk_frame.specs.Framing.{Waits, IsOpen, IsTooLong, Feeds, Takes};
-ghost use Rattle.zk_frame.specs.Kept.{IsFilled};
+ghost use Rattle.zk_frame.specs.Framing.{IsWhole, Waits, IsOpen, IsTooLong, Feeds, Takes};
+ghost use Rattle.zk_frame.specs.Kept.{IsFilled, IsKept};
 
 use jute_core::{Bytes, Memory};
 use std::alloc::Global;
@@ -90,6 +90,21 @@ fn fill_body(body: &mut Vec<u8>, lacking: usize, piece: &[u8]) -> Result<usize, 
     Ok(count)
 }
 
+// Whether what is kept is a whole frame.
+fn is_whole(limit: u32, filled: usize, prefix: [u8; 4], body: &[u8]) -> bool
+    requires { IsKept limit filled prefix body.now }
+    ensures whole { IsTrue result → IsWhole limit (take filled prefix ++ body.now) body.now }
+    ensures rest { result ≡ false → IsRest (take filled prefix ++ body.now) }
+{
+    if filled < 4 {
+        return false;
+    }
+    let Ok(size) = body_length(prefix, limit) else {
+        return false;
+    };
+    size == body.len()
+}
+
 impl Framer {
     /// A framer that holds nothing, for bodies of at most so many bytes. Takes no memory.
     pub fn new(alloc: Global, limit: u32) -> Framer
@@ -149,6 +164,32 @@ impl Framer {
         }
     }
 
+    /// Lends the body of the frame that waits. `None` comes exactly where no whole frame waits. Takes no memory.
+    pub fn whole(&self) -> Option<&[u8]>
+        ensures some { IfSome result (λ body. IsWhole self.now.limit self.now.held body.now) }
+        ensures rest { IfNone result (IsRest self.now.held) }
+    {
+        if !is_whole(self.limit, self.filled, self.prefix, self.body.as_slice()) {
+            return None;
+        }
+        Some(self.body.as_slice())
+    }
+
+    /// Drops the frame that waits, and then holds nothing; `true` exactly where one waited. Takes no
+    /// memory. What the body took is kept for the next one.
+    pub fn end_frame(&mut self) -> bool
+        ensures ended { IsTrue result → (body : List ℕ) × Takes self.old self.new body }
+        ensures none { result ≡ false → self.new ≡ self.old }
+        ensures rest { result ≡ false → IsRest self.old.held }
+    {
+        if !is_whole(self.limit, self.filled, self.prefix, self.body.as_slice()) {
+            return false;
+        }
+        self.filled = 0;
+        self.body.clear();
+        true
+    }
+
     /// Hands out the body of the frame that waits, as it is, and then holds nothing. `None` comes
     /// exactly where no whole frame waits. Takes no memory.
     pub fn take(&mut self) -> Option<Bytes>
@@ -156,13 +197,7 @@ impl Framer {
         ensures none { IfNone result (self.new ≡ self.old) }
         ensures rest { IfNone result (IsRest self.old.held) }
     {
-        if self.filled < 4 {
-            return None;
-        }
-        let Ok(size) = body_length(self.prefix, self.limit) else {
-            return None;
-        };
-        if size != self.body.len() {
+        if !is_whole(self.limit, self.filled, self.prefix, self.body.as_slice()) {
             return None;
         }
         self.filled = 0;
