@@ -7,3 +7,13 @@ pub mod OneItem
 pub mod OneTurn
 pub mod OneStand
 pub mod SentItems
+pub mod GoesOn
+pub mod Thirtyfold
+pub mod NoMemory
+pub mod StoreSide
+pub mod StoreReplies
+pub mod Taking
+pub mod ClientLoop
+pub mod ClientSide
+pub mod StoreLoop
+pub mod Sessions

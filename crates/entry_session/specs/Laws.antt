@@ -1,5 +1,6 @@
 -- What holds of every session.
-use Rattle.std.specs.Prelude.{◌≡◌, ◌<◌, ◌^◌, ℕ, suc, List, [], ◌++◌, length, Option, Some}
+use Rattle.std.specs.Prelude.{◌≡◌, ◌≤◌, ◌<◌, ◌*◌, ◌^◌, ℕ, suc, List, [], ◌++◌, length, Option, Some}
+use Rattle.std.specs.List.{AllZip}
 use Rattle.path_seal.specs.Sealed.{AreKeys}
 use Rattle.payload_seal.specs.Ivs.{payload_iv}
 use Rattle.payload_seal.specs.declared.keys.EntryKeys.{EntryKeys}
@@ -12,7 +13,7 @@ use Rattle.entry_session.specs.ClientTurns.{greatest_epoch}
 use Rattle.entry_session.specs.Runs.{Ran}
 use Rattle.entry_session.specs.Veiled.{Veiled}
 use Rattle.entry_session.specs.declared.ending.Ending.{Ending}
-use Rattle.entry_session.specs.declared.ending.Ending.TheVariants.{StoreMalformed, WrongXid, NothingOpen, BadEvent}
+use Rattle.entry_session.specs.declared.ending.Ending.TheVariants.{StoreMalformed, WrongXid, NothingOpen, BadEvent, Memory}
 
 -- what was heard leads to one stand
 abbrev pub LeadsToOne : Type 0
@@ -37,6 +38,38 @@ pub record HandsDown (hs : List Heard) (s : Stand) : Type 0 where
 
 abbrev pub HandsDownOneForOne : Type 0
 HandsDownOneForOne = (k : EntryKeys) (boot c : ℕ) (hs : List Heard) (s : Stand) → Ran k boot c hs s → HandsDown hs s
+
+-- a list that begins with another
+pub record Continues {A : Type 0} (longer shorter : List A) : Type 0 where
+  pub more : List A
+  pub is : longer ≡ shorter ++ more
+
+-- where a session stood before it heard more: all that it had come to stays, and what is new stands behind it
+pub record StoodAt (k : EntryKeys) (boot c : ℕ) (hs : List Heard) (t : Stand) : Type 0 where
+  pub s : Stand
+  pub ran : Ran k boot c hs s
+  pub items : Continues t.items s.items
+  pub up : Continues t.up s.up
+  pub down : Continues t.down s.down
+  pub findings : Continues t.findings s.findings
+
+-- where it heard more, it went on from there
+abbrev pub GoesOn : Type 0
+GoesOn = (k : EntryKeys) (boot c : ℕ) (more hs : List Heard) (t : Stand) → Ran k boot c (more ++ hs) t → StoodAt k boot c hs t
+
+-- each body that was handed up has at most 30 times the bytes of the client's body for which it was
+pub record IsThirtyfold (hs : List Heard) (s : Stand) : Type 0 where
+  pub heard : List (List ℕ)
+  pub others : List (List ℕ)
+  pub first : client_frames hs ≡ heard ++ others
+  pub each : AllZip (λ body out. length out ≤ 30 * length body) heard s.up
+
+abbrev pub HandsUpThirtyfold : Type 0
+HandsUpThirtyfold = (k : EntryKeys) (boot c : ℕ) (hs : List Heard) (s : Stand) → Ran k boot c hs s → IsThirtyfold hs s
+
+-- no list of what was heard leads to want of memory
+abbrev pub NeverWantsMemory : Type 0
+NeverWantsMemory = (k : EntryKeys) (boot c : ℕ) (hs : List Heard) (s : Stand) → Ran k boot c hs s → s.ending ≡ Some Memory → ⊥
 
 -- no two payloads of the sessions of one boot have one IV
 abbrev pub HaveOwnIvs : Type 0

@@ -6,3 +6,8 @@ pub mod Runs
 pub mod Veiled
 pub mod Sides
 pub mod Laws
+pub mod Kept
+pub mod Calls
+pub mod StoreSteps
+pub mod Frames
+pub mod Pieces
