@@ -2,10 +2,16 @@ pub mod NumberLemmas
 pub mod LineLemmas
 pub mod EventLemmas
 pub mod ReadingLemmas
+pub mod GrammarLemmas
 pub mod PartLemmas
 pub mod SaidLemmas
 pub mod RunLemmas
+pub mod CauseLemmas
+pub mod EndLemmas
+pub mod LoadLemmas
 pub mod PrintedLemmas
 pub mod FrontLemmas
 pub mod ShowLemmas
 pub mod OneShow
+pub mod FindingLemmas
+pub mod PlayLemmas

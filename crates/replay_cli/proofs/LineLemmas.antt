@@ -1,11 +1,15 @@
 -- Lines and words of a text.
 use Rattle.std.proofs.Common.{◌≡◌, ◌≢◌, ℕ, suc, ◌+◌, ◌<◌, ◌≤◌, Bool, true, false, cond, eqb, List, [], ◌∷◌, ◌++◌, length, take, drop, get_or, Some, None, refl, sym, ap, subst, ◌∙◌, arith, rules, length-take, get_or-take}
+use Rattle.std.proofs.Math.Seq.{take-append_seam}
+use Rattle.std.proofs.lemmas.List.{take-append-drop}
+use Rattle.std.specs.Cmp.Lexicographic.{same_text, other_text}
 use Rattle.std.specs.Prelude.{position, nat_lt}
+use Rattle.std.specs.Str.{bytes_eq}
 use Rattle.std.specs.List.{position_or_len}
 use Rattle.std.proofs.lemmas.List.Splits.{slice_split_first, slice_split_none}
 use Rattle.std.proofs.lemmas.List.Sums.{fails_before_first, passes_at_first, split_at_first}
 use Rattle.std.proofs.lemmas.Bool.Decides.{nat_tests}
-use Rattle.replay_cli.specs.Script.{lines}
+use Rattle.replay_cli.specs.Lines.{lines}
 use Rattle.replay_cli.specs.Reading.{HasNoSpace}
 
 at_some : (t : Bool) (n i : ℕ) → cond t (Some n) None ≡ Some i → (t ≡ true) × (n ≡ i)
@@ -30,6 +34,17 @@ cut_none text e =
     let t = at_none (nat_lt (position_or_len (λ b. eqb b 10) text) (length text)) (position_or_len (λ b. eqb b 10) text) e in
     let ge : length text ≤ position_or_len (λ b. eqb b 10) text = grind (arith, nat_tests) in
     slice_split_none (λ (b : ℕ). eqb b 10) text (search (rules, fails_before_first))
+
+-- Fronts
+
+-- a text begins with this front, or does not
+pub front_cut : (text front rest : List ℕ) → bytes_eq (take (length front) text) front ≡ true → rest ≡ drop (length front) text → text ≡ front ++ rest
+front_cut text front rest begins is =
+    let same = same_text (take (length front) text) front (sym begins) in
+    sym (take-append-drop (length front) text) ∙ ap (λ (l : List ℕ). l ++ drop (length front) text) same ∙ ap (λ (l : List ℕ). front ++ l) (sym is)
+
+pub no_front : (text front rest : List ℕ) → bytes_eq (take (length front) text) front ≡ false → text ≡ front ++ rest → ⊥
+no_front text front rest differs e = other_text (take (length front) text) front (sym differs) (ap (take (length front)) e ∙ take-append_seam front rest)
 
 -- Words before a space
 

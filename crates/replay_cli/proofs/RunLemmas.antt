@@ -4,85 +4,168 @@ use Rattle.std.proofs.Math.Seq.{take-length}
 use Rattle.jute_core.specs.Faults.{Takes, HasCause}
 use Rattle.std.specs.Prelude.{IfErr}
 use Rattle.replay_cli.specs.declared.script.Event.{Event}
-use Rattle.replay_cli.specs.declared.top_call.Stop.{Stop}
-use Rattle.replay_cli.specs.declared.top_call.Stop.TheVariants.{BadWords, Unread, TooLong, NotBuilt, Memory}
-use Rattle.replay_cli.specs.Script.{IsScript, lines}
+use Rattle.replay_cli.specs.declared.stops.Stop.{Stop}
+use Rattle.replay_cli.specs.declared.stops.Stop.TheVariants.{BadWords, Unread, TooLong, KeyMalformed, ScriptMalformed, NotBuilt, Memory}
 use Rattle.replay_cli.specs.Told.{Told}
 use Rattle.replay_cli.specs.Sinks.{ReportsFault, fault_line}
-use Rattle.replay_cli.specs.Words.{Words, word, IsReplay, IsHostile, IsShow, IsUnbuilt, ReadsFiles, Fits}
-use Rattle.replay_cli.specs.Run.{Prints, IsBuilt, IsBuiltScript, CannotBuild, IsLongOf, HasLong, StopsAtFile, IsNotBuilt}
-use Rattle.replay_cli.specs.Stops.{Because, IsUnreadOf, IsUnread}
-use Rattle.replay_cli.proofs.ReadingLemmas.{one_script}
+use Rattle.replay_cli.specs.Words.{Words, word, IsReplay, IsHostile, IsShow, IsUnbuilt, IsKeyed, ReadsFiles, Fits}
+use Rattle.replay_cli.specs.Script.{IsScript, IsFirstBadLine}
+use Rattle.replay_cli.specs.HostileScript.{IsFirstBadHostileLine}
+use Rattle.replay_cli.specs.Run.{MayHold, MayBe, Prints, IsBuilt, IsUnbuiltScript, IsKey, CannotBuild, IsBadKey, IsBadScript, IsLongOf, HasLong, HasBadKey, HasBadLine, StopsAtFile, IsNotBuilt}
+use Rattle.replay_cli.specs.Stops.{Because, BecauseOfScript, IsUnreadOf, IsUnread}
 
-because : (stop : Stop) (P Q : Type 0) → (P → Q) → Because stop ⊥ (λ name. ⊥) (λ name. ⊥) P → Because stop ⊥ (λ name. ⊥) (λ name. ⊥) Q
-because BadWords P Q f h = h
-because (Unread name) P Q f h = h
-because (TooLong name) P Q f h = h
-because NotBuilt P Q f h = f h
-because Memory P Q f h = h
+-- One script
 
--- one cause of NotBuilt in place of another
-pub because_then : {T : Type 0} (r : Result T Stop) (P Q : Type 0) → (P → Q) → IfErr r (λ stop. Because stop ⊥ (λ name. ⊥) (λ name. ⊥) P) → IfErr r (λ stop. Because stop ⊥ (λ name. ⊥) (λ name. ⊥) Q)
-because_then (Ok x) P Q f h = tt
-because_then (Err stop) P Q f h = because stop P Q f h
+script_stop : (stop : Stop) (P Q : Type 0) (b : ℕ → Type 0) → (P → Q) → BecauseOfScript stop (λ n. ⊥) P → BecauseOfScript stop b Q
+script_stop BadWords P Q b f h = h
+script_stop (Unread name) P Q b f h = h
+script_stop (TooLong name) P Q b f h = h
+script_stop (KeyMalformed size) P Q b f h = h
+script_stop (ScriptMalformed number) P Q b f h = absurd h
+script_stop NotBuilt P Q b f h = f h
+script_stop Memory P Q b f h = tt
 
--- a script of which the events are not built is not
-pub not_built : (script : List ℕ) (events : List Event) → IsScript script events → (IsBuilt events → ⊥) → IsBuiltScript script → ⊥
-not_built script events is never built = never (subst IsBuilt (one_script (lines script) 0 built.0 events (omega arith) built.1 is) built.2)
+-- events that are not built are those of a script
+pub unbuilt_script : {T : Type 0} (r : Result T Stop) (script : List ℕ) (events : List Event) (b : ℕ → Type 0) → IsScript script events
+    → IfErr r (λ stop. BecauseOfScript stop (λ n. ⊥) (IsBuilt events → ⊥)) → IfErr r (λ stop. BecauseOfScript stop b (IsUnbuiltScript script))
+unbuilt_script (Ok x) script events b is h = tt
+unbuilt_script (Err stop) script events b is h = script_stop stop (IsBuilt events → ⊥) (IsUnbuiltScript script) b (λ never. (events, is, never)) h
 
-either_name : (name key script : List ℕ) (words : Words) (read : ℕ) (failed : Option ℕ) → key ≡ word words 1 → script ≡ word words 2 → IsUnreadOf key script read failed name → IsUnreadOf (word words 1) (word words 2) read failed name
-either_name name key script words read failed k s h = elim h [ inl e ↦ inl (e.0 ∙ k, e.1) | inr e ↦ inr (e.0 ∙ s, e.1) ]
+loaded_stop : (stop : Stop) (unread long : List ℕ → Type 0) (bad : ℕ → Type 0) (IsFirstBad : List ℕ → ℕ → Type 0) (P : List ℕ → Type 0) (key script : Told) (bytes : List ℕ) → MayBe key IsKey → MayHold script bytes
+    → BecauseOfScript stop (IsFirstBad bytes) (P bytes) → Because stop ⊥ unread long bad (IsBadScript IsFirstBad key script) (MayBe key IsKey × MayBe script P)
+loaded_stop BadWords unread long bad f P key script bytes k held h = h
+loaded_stop (Unread name) unread long bad f P key script bytes k held h = absurd h
+loaded_stop (TooLong name) unread long bad f P key script bytes k held h = absurd h
+loaded_stop (KeyMalformed size) unread long bad f P key script bytes k held h = absurd h
+loaded_stop (ScriptMalformed number) unread long bad f P key script bytes k held h = (k, (bytes, held, h))
+loaded_stop NotBuilt unread long bad f P key script bytes k held h = (k, (bytes, held, h))
+loaded_stop Memory unread long bad f P key script bytes k held h = tt
 
-replay_stop : (stop : Stop) (words : Words) (key script : List ℕ) (told : List ℕ → Told) (read : ℕ) (failed : Option ℕ) (R : Type 0) → IsReplay words → key ≡ word words 1 → script ≡ word words 2
-    → Because stop ⊥ (λ name. IsUnreadOf key script read failed name × R) (IsLongOf told key script) (CannotBuild (told key) (told script))
-    → Because stop (Fits words → ⊥) (λ name. IsUnread words read failed name × R) (HasLong words told) (IsNotBuilt words told)
-replay_stop BadWords words key script told read failed R is k s h = absurd h
-replay_stop (Unread name) words key script told read failed R is k s h = (inl (is, either_name name.now key script words read failed k s h.0), h.1)
-replay_stop (TooLong name) words key script told read failed R is k s h = inl (is, subst (λ (n : List ℕ). IsLongOf told (word words 1) n name.now) s (subst (λ (n : List ℕ). IsLongOf told n script name.now) k h))
-replay_stop NotBuilt words key script told read failed R is k s h = inr (is, subst (λ (n : List ℕ). CannotBuild (told (word words 1)) (told n)) s (subst (λ (n : List ℕ). CannotBuild (told n) (told script)) k h))
-replay_stop Memory words key script told read failed R is k s h = tt
+-- the causes of a script behind a key
+pub loaded_stops : {T : Type 0} (r : Result T Stop) (unread long : List ℕ → Type 0) (bad : ℕ → Type 0) (IsFirstBad : List ℕ → ℕ → Type 0) (P : List ℕ → Type 0) (key script : Told) (bytes : List ℕ)
+    → MayBe key IsKey → MayHold script bytes → IfErr r (λ stop. BecauseOfScript stop (IsFirstBad bytes) (P bytes))
+    → IfErr r (λ stop. Because stop ⊥ unread long bad (IsBadScript IsFirstBad key script) (MayBe key IsKey × MayBe script P))
+loaded_stops (Ok x) unread long bad f P key script bytes k held h = tt
+loaded_stops (Err stop) unread long bad f P key script bytes k held h = loaded_stop stop unread long bad f P key script bytes k held h
+
+hostile_stop : (stop : Stop) (unread long : List ℕ → Type 0) (bad : ℕ → Type 0) (IsFirstBad : List ℕ → ℕ → Type 0) (key script : Told) (bytes : List ℕ) → MayBe key IsKey → MayHold script bytes
+    → BecauseOfScript stop (IsFirstBad bytes) ⊥ → Because stop ⊥ unread long bad (IsBadScript IsFirstBad key script) ⊥
+hostile_stop BadWords unread long bad f key script bytes k held h = h
+hostile_stop (Unread name) unread long bad f key script bytes k held h = absurd h
+hostile_stop (TooLong name) unread long bad f key script bytes k held h = absurd h
+hostile_stop (KeyMalformed size) unread long bad f key script bytes k held h = absurd h
+hostile_stop (ScriptMalformed number) unread long bad f key script bytes k held h = (k, (bytes, held, h))
+hostile_stop NotBuilt unread long bad f key script bytes k held h = h
+hostile_stop Memory unread long bad f key script bytes k held h = tt
+
+pub hostile_stops : {T : Type 0} (r : Result T Stop) (unread long : List ℕ → Type 0) (bad : ℕ → Type 0) (IsFirstBad : List ℕ → ℕ → Type 0) (key script : Told) (bytes : List ℕ)
+    → MayBe key IsKey → MayHold script bytes → IfErr r (λ stop. BecauseOfScript stop (IsFirstBad bytes) ⊥) → IfErr r (λ stop. Because stop ⊥ unread long bad (IsBadScript IsFirstBad key script) ⊥)
+hostile_stops (Ok x) unread long bad f key script bytes k held h = tt
+hostile_stops (Err stop) unread long bad f key script bytes k held h = hostile_stop stop unread long bad f key script bytes k held h
+
+-- a key that was loaded may be one
+pub may_be : (key : Told) (P : List ℕ → Type 0) → MayBe key (λ bytes. IsKey bytes × P bytes) → MayBe key IsKey
+may_be key P h = (h.0, h.1, h.2.0)
+
+-- A command line
+
+-- a key and a script are named by the second word and the third
+pub record AreNamed (words : Words) (key script : List ℕ) : Type 0 where
+  pub key_is : key ≡ word words 1
+  pub script_is : script ≡ word words 2
+
+either_name : (name key script : List ℕ) (words : Words) (read : ℕ) (failed : Option ℕ) → AreNamed words key script → IsUnreadOf key script read failed name → IsUnreadOf (word words 1) (word words 2) read failed name
+either_name name key script words read failed n h = elim h [ inl e ↦ inl (e.0 ∙ n.key_is, e.1) | inr e ↦ inr (e.0 ∙ n.script_is, e.1) ]
+
+-- what is told of them, by either name
+renamed : (words : Words) (key script : List ℕ) (P : List ℕ → List ℕ → Type 0) → AreNamed words key script → P key script → P (word words 1) (word words 2)
+renamed words key script P n h = subst (λ (s : List ℕ). P (word words 1) s) n.script_is (subst (λ (k : List ℕ). P k script) n.key_is h)
+
+replay_stop : (stop : Stop) (words : Words) (key script : List ℕ) (told : List ℕ → Told) (read : ℕ) (failed : Option ℕ) (R : Type 0) → IsReplay words → AreNamed words key script
+    → Because stop ⊥ (λ name. IsUnreadOf key script read failed name × R) (IsLongOf told key script) (IsBadKey (told key)) (IsBadScript IsFirstBadLine (told key) (told script)) (CannotBuild (told key) (told script))
+    → Because stop (Fits words → ⊥) (λ name. IsUnread words read failed name × R) (HasLong words told) (HasBadKey words told) (HasBadLine words told) (IsNotBuilt words told)
+replay_stop BadWords words key script told read failed R is n h = absurd h
+replay_stop (Unread name) words key script told read failed R is n h = (inl (inl is, either_name name.now key script words read failed n h.0), h.1)
+replay_stop (TooLong name) words key script told read failed R is n h = inl (inl is, renamed words key script (λ k s. IsLongOf told k s name.now) n h)
+replay_stop (KeyMalformed size) words key script told read failed R is n h = (inl is, renamed words key script (λ k s. IsBadKey (told k) size) n h)
+replay_stop (ScriptMalformed number) words key script told read failed R is n h = inl (is, renamed words key script (λ k s. IsBadScript IsFirstBadLine (told k) (told s) number) n h)
+replay_stop NotBuilt words key script told read failed R is n h = inr (is, renamed words key script (λ k s. CannotBuild (told k) (told s)) n h)
+replay_stop Memory words key script told read failed R is n h = tt
 
 -- the causes of a replay, in the words of its command line
 pub replay_stops : {T : Type 0} (r : Result T Stop) (words : Words) (key script : List ℕ) (told : List ℕ → Told) (read : ℕ) (failed : Option ℕ) (R : Type 0) → IsReplay words → key ≡ word words 1 → script ≡ word words 2
-    → IfErr r (λ stop. Because stop ⊥ (λ name. IsUnreadOf key script read failed name × R) (IsLongOf told key script) (CannotBuild (told key) (told script)))
-    → IfErr r (λ stop. Because stop (Fits words → ⊥) (λ name. IsUnread words read failed name × R) (HasLong words told) (IsNotBuilt words told))
+    → IfErr r (λ stop. Because stop ⊥ (λ name. IsUnreadOf key script read failed name × R) (IsLongOf told key script) (IsBadKey (told key)) (IsBadScript IsFirstBadLine (told key) (told script)) (CannotBuild (told key) (told script)))
+    → IfErr r (λ stop. Because stop (Fits words → ⊥) (λ name. IsUnread words read failed name × R) (HasLong words told) (HasBadKey words told) (HasBadLine words told) (IsNotBuilt words told))
 replay_stops (Ok x) words key script told read failed R is k s h = tt
-replay_stops (Err stop) words key script told read failed R is k s h = replay_stop stop words key script told read failed R is k s h
+replay_stops (Err stop) words key script told read failed R is k s h = replay_stop stop words key script told read failed R is (record { key_is = k; script_is = s }) h
+
+session_stop : (stop : Stop) (words : Words) (key script : List ℕ) (told : List ℕ → Told) (read : ℕ) (failed : Option ℕ) (R : Type 0) → IsHostile words → AreNamed words key script
+    → Because stop ⊥ (λ name. IsUnreadOf key script read failed name × R) (IsLongOf told key script) (IsBadKey (told key)) (IsBadScript IsFirstBadHostileLine (told key) (told script)) ⊥
+    → Because stop (Fits words → ⊥) (λ name. IsUnread words read failed name × R) (HasLong words told) (HasBadKey words told) (HasBadLine words told) (IsNotBuilt words told)
+session_stop BadWords words key script told read failed R is n h = absurd h
+session_stop (Unread name) words key script told read failed R is n h = (inl (inr is, either_name name.now key script words read failed n h.0), h.1)
+session_stop (TooLong name) words key script told read failed R is n h = inl (inr is, renamed words key script (λ k s. IsLongOf told k s name.now) n h)
+session_stop (KeyMalformed size) words key script told read failed R is n h = (inr is, renamed words key script (λ k s. IsBadKey (told k) size) n h)
+session_stop (ScriptMalformed number) words key script told read failed R is n h = inr (is, renamed words key script (λ k s. IsBadScript IsFirstBadHostileLine (told k) (told s) number) n h)
+session_stop NotBuilt words key script told read failed R is n h = absurd h
+session_stop Memory words key script told read failed R is n h = tt
+
+-- the causes of a session over a hostile script, in the words of its command line
+pub session_stops : {T : Type 0} (r : Result T Stop) (words : Words) (key script : List ℕ) (told : List ℕ → Told) (read : ℕ) (failed : Option ℕ) (R : Type 0) → IsHostile words → key ≡ word words 1 → script ≡ word words 2
+    → IfErr r (λ stop. Because stop ⊥ (λ name. IsUnreadOf key script read failed name × R) (IsLongOf told key script) (IsBadKey (told key)) (IsBadScript IsFirstBadHostileLine (told key) (told script)) ⊥)
+    → IfErr r (λ stop. Because stop (Fits words → ⊥) (λ name. IsUnread words read failed name × R) (HasLong words told) (HasBadKey words told) (HasBadLine words told) (IsNotBuilt words told))
+session_stops (Ok x) words key script told read failed R is k s h = tt
+session_stops (Err stop) words key script told read failed R is k s h = session_stop stop words key script told read failed R is (record { key_is = k; script_is = s }) h
 
 -- the words of the two commands with three words differ
-one_of_three : (words : Words) → IsReplay words → IsHostile words → ⊥
+pub one_of_three : (words : Words) → IsReplay words → IsHostile words → ⊥
 one_of_three words replay hostile = omega (arith, ap length (sym replay.1 ∙ hostile.1))
 
+keyed_size : (words : Words) → IsKeyed words → length words ≡ 3
+keyed_size words (inl replay) = replay.0
+keyed_size words (inr hostile) = hostile.0
+
 -- a command that reads files is built
-reading_built : (words : Words) → ReadsFiles words → IsUnbuilt words → ⊥
-reading_built words (inl replay) (inl hostile) = one_of_three words replay hostile
-reading_built words (inl replay) (inr stress) = omega (arith, replay.0, stress.0.0)
-reading_built words (inr show) (inl hostile) = omega (arith, show.0, hostile.0)
-reading_built words (inr show) (inr stress) = omega (arith, show.0, stress.0.0)
+pub reading_built : (words : Words) → ReadsFiles words → IsUnbuilt words → ⊥
+reading_built words (inl keyed) stress = omega (arith, keyed_size words keyed, stress.0.0)
+reading_built words (inr show) stress = omega (arith, show.0, stress.0.0)
 
-one_reading : (words : Words) → IsReplay words → IsShow words → ⊥
-one_reading words replay show = omega (arith, replay.0, show.0)
+pub one_reading : (words : Words) → IsKeyed words → IsShow words → ⊥
+one_reading words keyed show = omega (arith, keyed_size words keyed, show.0)
 
--- where a command stops at a file, its words fit, it prints nothing, and is built
+-- where a command stops at a file, its words fit, it prints nothing, is built, and its files are not malformed
+
 pub stops_fit : (words : Words) (told : List ℕ → Told) → StopsAtFile words told → (Fits words → ⊥) → ⊥
 stops_fit words told (inl first) never = never (inl first.0)
 stops_fit words told (inr script) never = never (inl (inl script.0))
 
 pub stops_printing : (words : Words) (told : List ℕ → Told) (text : List ℕ) → StopsAtFile words told → Prints words told text → ⊥
 stops_printing words told text (inl first) (inl replay) = first.1 replay.1.key_bytes replay.1.key_held
-stops_printing words told text (inl first) (inr show) = first.1 show.1.bytes show.1.held
+stops_printing words told text (inl first) (inr (inl hostile)) = first.1 hostile.1.key_bytes hostile.1.key_held
+stops_printing words told text (inl first) (inr (inr show)) = first.1 show.1.bytes show.1.held
 stops_printing words told text (inr script) (inl replay) = script.2 replay.1.script_bytes replay.1.script_held
-stops_printing words told text (inr script) (inr show) = one_reading words script.0 show.0
+stops_printing words told text (inr script) (inr (inl hostile)) = script.2 hostile.1.script_bytes hostile.1.script_held
+stops_printing words told text (inr script) (inr (inr show)) = one_reading words script.0 show.0
 
 pub stops_built : (words : Words) (told : List ℕ → Told) → StopsAtFile words told → IsNotBuilt words told → ⊥
 stops_built words told (inl first) (inl unbuilt) = reading_built words first.0 unbuilt
-stops_built words told (inl first) (inr (is, inl key)) = first.1 key.0 key.1
-stops_built words told (inl first) (inr (is, inr script)) = first.1 script.0.0 script.0.1
+stops_built words told (inl first) (inr (is, cannot)) = first.1 cannot.0.0 cannot.0.1
 stops_built words told (inr script) (inl unbuilt) = reading_built words (inl script.0) unbuilt
-stops_built words told (inr script) (inr (is, inl key)) = script.1 key
-stops_built words told (inr script) (inr (is, inr other)) = script.2 other.1.0 other.1.1
+stops_built words told (inr script) (inr (is, cannot)) = script.2 cannot.1.0 cannot.1.1
 
-pub ruleset stops = (stops_fit, stops_printing, stops_built)
+pub stops_at_key : (words : Words) (told : List ℕ → Told) (size : ℕ) → StopsAtFile words told → HasBadKey words told size → ⊥
+stops_at_key words told size (inl first) bad = first.1 bad.1.0 bad.1.1
+stops_at_key words told size (inr script) bad = script.1 (bad.1.0, bad.1.1, bad.1.2.0)
+
+bad_script : (words : Words) (told : List ℕ → Told) (number : ℕ) → HasBadLine words told number → (P : Type 0) → ((bytes : List ℕ) → MayHold (told (word words 1)) bytes → (more : List ℕ) → MayHold (told (word words 2)) more → P) → P
+bad_script words told number (inl bad) P f = f bad.1.0.0 bad.1.0.1 bad.1.1.0 bad.1.1.1
+bad_script words told number (inr bad) P f = f bad.1.0.0 bad.1.0.1 bad.1.1.0 bad.1.1.1
+
+pub stops_at_line : (words : Words) (told : List ℕ → Told) (number : ℕ) → StopsAtFile words told → HasBadLine words told number → ⊥
+stops_at_line words told number (inl first) bad = bad_script words told number bad ⊥ (λ key held script more. first.1 key held)
+stops_at_line words told number (inr stop) bad = bad_script words told number bad ⊥ (λ key held script more. stop.2 script more)
+
+pub ruleset stops = (stops_fit, stops_printing, stops_built, stops_at_key, stops_at_line)
 
 -- what a write of the line took of it
 pub reports_fault : {T E : Type 0} (r : Result T E) (faults later : ℕ) (taken after : Option (List ℕ)) → Takes taken after fault_line r → HasCause faults later r → ReportsFault faults later taken after

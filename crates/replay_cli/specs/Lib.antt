@@ -6,9 +6,15 @@ pub mod Numbers
 pub mod Words
 pub mod Commands
 pub mod Printed
+pub mod Lines
 pub mod Script
+pub mod HostileScript
 pub mod Reading
+pub mod Reasons
 pub mod Show
 pub mod Showing
+pub mod Endings
+pub mod Hostile
+pub mod Playing
 pub mod Run
 pub mod Stops

@@ -1,10 +1,16 @@
 -- What the commands print, and when they print nothing.
-use Rattle.std.specs.Prelude.{◌≡◌, ℕ, ◌<◌, ◌≤◌, ◌⊎◌, List, length, replicate, codes, Bool, if◌then◌else◌}
+use Rattle.std.specs.Prelude.{◌≡◌, ℕ, ◌<◌, ◌≤◌, ◌⊎◌, List, length, replicate, codes, Bool, IsTrue, if◌then◌else◌}
+use Rattle.std.specs.List.{list_all}
+use Rattle.payload_seal.specs.Keys.{IsKeyFileSize}
+use Rattle.payload_seal.specs.declared.keys.EntryKeys.{EntryKeys}
 use Rattle.replay_cli.specs.Told.{Told, untold, missing, holds, Agrees}
-use Rattle.replay_cli.specs.Words.{Words, word, IsReplay, IsShow, IsUnbuilt, ReadsFiles}
+use Rattle.replay_cli.specs.Words.{Words, word, IsReplay, IsHostile, IsShow, IsUnbuilt, IsKeyed, ReadsFiles}
 use Rattle.replay_cli.specs.Show.{IsShown}
 use Rattle.replay_cli.specs.Printed.{Shown, world_text}
-use Rattle.replay_cli.specs.Script.{IsScript, opened, sent, drained}
+use Rattle.replay_cli.specs.Script.{IsScript, IsFirstBadLine, opened, sent, drained, is_plain}
+use Rattle.replay_cli.specs.HostileScript.{IsHostileScript, IsFirstBadHostileLine}
+use Rattle.replay_cli.specs.Hostile.{IsKeysOf, PrintsHostile}
+use Rattle.replay_cli.specs.declared.hostile_script.HostileEvent.{HostileEvent}
 use Rattle.replay_cli.specs.declared.script.Event.{Event}
 use Rattle.tree_server.specs.declared.entry.Entry.{Entry}
 use Rattle.world_core.specs.FirstForm.{IsFirstForm}
@@ -24,8 +30,9 @@ IsTooLong untold = Unit {0}
 IsTooLong missing = ⊥
 IsTooLong (holds all) = file_limit < length all
 
+-- a key file has 64 bytes, and 16 for each epoch after the first one, at most 255 times
 abbrev pub IsKey : List ℕ → Type 0
-IsKey key = length key ≡ 64
+IsKey key = IsKeyFileSize (length key)
 
 -- what is printed of a connection, which is closed on both sides or open on both
 abbrev pub shown : List ℕ → List ℕ → Bool → Shown
@@ -36,12 +43,10 @@ shown received handed closed = record {
   handed = handed;
 }
 
--- the events of scripts that are built: one connection at most, of which the client sends bytes of the first form
+-- The events of scripts that are built: connections are opened, send and are drained; there is one at most, of which the client sends
+-- bytes of the first form.
 abbrev pub IsBuilt : List Event → Type 0
-IsBuilt events = (opened events ≤ 1) × IsFirstForm (sent events)
-
-abbrev pub IsBuiltScript : List ℕ → Type 0
-IsBuiltScript script = (events : List Event) × IsScript script events × IsBuilt events
+IsBuilt events = IsTrue (list_all is_plain events) × (opened events ≤ 1) × IsFirstForm (sent events)
 
 -- what these events come to: an order, and what is printed of the connections, of which the headline speaks
 pub record Comes (events : List Event) (order : List Entry) (connections : List Shown) : Type 0 where
@@ -67,9 +72,13 @@ IsOutside told P = (bytes : List ℕ) × MayHold told bytes × (P bytes → ⊥)
 abbrev pub MayBe : Told → (List ℕ → Type 0) → Type 0
 MayBe told P = (bytes : List ℕ) × MayHold told bytes × P bytes
 
+-- a script of the grammar, of which the events are not built
+abbrev pub IsUnbuiltScript : List ℕ → Type 0
+IsUnbuiltScript script = (events : List Event) × IsScript script events × (IsBuilt events → ⊥)
+
 -- a cause of NotBuilt in the files of a replay, of which the key is read first
 abbrev pub CannotBuild : Told → Told → Type 0
-CannotBuild key script = IsOutside key IsKey ⊎ (MayBe key IsKey × IsOutside script IsBuiltScript)
+CannotBuild key script = MayBe key IsKey × MayBe script IsUnbuiltScript
 
 -- the text is what a replay of a key and a script in these files prints
 pub record IsReplayText (key script : Told) (text : List ℕ) : Type 0 where
@@ -82,6 +91,19 @@ pub record IsReplayText (key script : Told) (text : List ℕ) : Type 0 where
   pub is_script : IsScript script_bytes events
   pub prints : PrintsEvents events text
 
+-- the text is what one session under the key prints over the events of the script
+pub record IsHostileText (key script : Told) (text : List ℕ) : Type 0 where
+  pub key_bytes : List ℕ
+  pub script_bytes : List ℕ
+  pub keys : EntryKeys
+  pub events : List HostileEvent
+  pub key_held : MayHold key key_bytes
+  pub is_key : IsKey key_bytes
+  pub are_keys : IsKeysOf key_bytes keys
+  pub script_held : MayHold script script_bytes
+  pub is_script : IsHostileScript script_bytes events
+  pub prints : PrintsHostile keys events text
+
 -- the text is what is shown of the file
 pub record IsShownText (file : Told) (text : List ℕ) : Type 0 where
   pub bytes : List ℕ
@@ -91,15 +113,16 @@ pub record IsShownText (file : Told) (text : List ℕ) : Type 0 where
 -- the text is what the command prints, where the files tell this of each name
 abbrev pub Prints : Words → (List ℕ → Told) → List ℕ → Type 0
 Prints words told text = (IsReplay words × IsReplayText (told (word words 1)) (told (word words 2)) text)
+    ⊎ (IsHostile words × IsHostileText (told (word words 1)) (told (word words 2)) text)
     ⊎ (IsShow words × IsShownText (told (word words 1)) text)
 
--- a file of a replay is too long: the key, or the script behind what may be a key
+-- a file of a key and a script is too long: the key, or the script behind what may be a key
 abbrev pub IsLongOf : (List ℕ → Told) → List ℕ → List ℕ → List ℕ → Type 0
 IsLongOf told key script name = ((name ≡ key) ⊎ ((name ≡ script) × MayBe (told key) IsKey)) × IsTooLong (told name)
 
 -- a file of the command is too long
 abbrev pub HasLong : Words → (List ℕ → Told) → List ℕ → Type 0
-HasLong words told name = (IsReplay words × IsLongOf told (word words 1) (word words 2) name)
+HasLong words told name = (IsKeyed words × IsLongOf told (word words 1) (word words 2) name)
     ⊎ (IsShow words × (name ≡ word words 1) × IsTooLong (told name))
 
 -- no bytes may be the file's: it has more, or there is none
@@ -109,8 +132,49 @@ HoldsNone told = (bytes : List ℕ) → MayHold told bytes → ⊥
 -- a file that the command comes to for certain holds none: its first, or the script behind what can only be a key
 abbrev pub StopsAtFile : Words → (List ℕ → Told) → Type 0
 StopsAtFile words told = (ReadsFiles words × HoldsNone (told (word words 1)))
-    ⊎ (IsReplay words × (IsOutside (told (word words 1)) IsKey → ⊥) × HoldsNone (told (word words 2)))
+    ⊎ (IsKeyed words × (IsOutside (told (word words 1)) IsKey → ⊥) × HoldsNone (told (word words 2)))
 
 -- the command is not built, or what its files are
 abbrev pub IsNotBuilt : Words → (List ℕ → Told) → Type 0
 IsNotBuilt words told = IsUnbuilt words ⊎ (IsReplay words × CannotBuild (told (word words 1)) (told (word words 2)))
+
+-- Malformed keys and scripts
+
+-- the file may hold so many bytes, and no key file has as many
+abbrev pub IsBadKey : Told → ℕ → Type 0
+IsBadKey key size = MayBe key (λ bytes. (IsKey bytes → ⊥) × (size ≡ length bytes))
+
+abbrev pub HasBadKey : Words → (List ℕ → Told) → ℕ → Type 0
+HasBadKey words told size = IsKeyed words × IsBadKey (told (word words 1)) size
+
+-- behind what may be a key the script may have its first line outside the grammar here
+abbrev pub IsBadScript : (List ℕ → ℕ → Type 0) → Told → Told → ℕ → Type 0
+IsBadScript IsFirstBad key script number = MayBe key IsKey × MayBe script (λ bytes. IsFirstBad bytes number)
+
+-- the script of the command, by its own grammar
+abbrev pub HasBadLine : Words → (List ℕ → Told) → ℕ → Type 0
+HasBadLine words told number = (IsReplay words × IsBadScript IsFirstBadLine (told (word words 1)) (told (word words 2)) number)
+    ⊎ (IsHostile words × IsBadScript IsFirstBadHostileLine (told (word words 1)) (told (word words 2)) number)
+
+-- whatever the file may hold, it is none of this kind, and not too long
+abbrev pub IsNever : Told → (List ℕ → Type 0) → Type 0
+IsNever told P = (MayBe told P → ⊥) × (IsTooLong told → ⊥)
+
+-- whatever the file may hold, it is of this kind
+abbrev pub IsAlways : Told → (List ℕ → Type 0) → Type 0
+IsAlways told P = (IsOutside told P → ⊥) × (IsTooLong told → ⊥)
+
+-- the key can only be malformed
+abbrev pub StopsAtKey : Words → (List ℕ → Told) → Type 0
+StopsAtKey words told = IsKeyed words × IsNever (told (word words 1)) IsKey
+
+abbrev pub IsOfReplay : List ℕ → Type 0
+IsOfReplay script = (events : List Event) × IsScript script events
+
+abbrev pub IsOfHostile : List ℕ → Type 0
+IsOfHostile script = (events : List HostileEvent) × IsHostileScript script events
+
+-- the key can only be one, and the script can only be outside the grammar
+abbrev pub StopsAtLine : Words → (List ℕ → Told) → Type 0
+StopsAtLine words told = IsAlways (told (word words 1)) IsKey
+    × ((IsReplay words × IsNever (told (word words 2)) IsOfReplay) ⊎ (IsHostile words × IsNever (told (word words 2)) IsOfHostile))

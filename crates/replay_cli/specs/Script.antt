@@ -1,69 +1,85 @@
 -- The grammar of replay scripts: a text and its list of events.
-use Rattle.std.specs.Prelude.{◌≡◌, ◌⊎◌, ℕ, ◌+◌, ◌<◌, ◌≤◌, ◌==◌, List, [], ◌∷◌, ◌++◌, length, codes, Bool, true, false, if◌then◌else◌}
-use Rattle.std.specs.List.{slice_split}
-use Rattle.std.specs.Fmt.{decimal}
-use Rattle.hex.specs.Hex.{encode_lower, IsBytes}
+use Rattle.std.specs.Prelude.{◌≡◌, ℕ, ℤ, pos, ◌<◌, ◌≤◌, ◌^◌, List, [], ◌∷◌, ◌++◌, length, codes, Bool, true, false, if◌then◌else◌}
+use Rattle.std.specs.Fmt.{decimal, signed_decimal}
+use Rattle.hex.specs.Hex.{encode_lower}
+use Rattle.replay_cli.specs.Lines.{lines, spaced, IsPiece, counted, SaysBy, IsFirstBadBy}
 use Rattle.replay_cli.specs.declared.script.Event.{Event}
-use Rattle.replay_cli.specs.declared.script.Event.TheVariants.{Open, Send, Drain}
+use Rattle.replay_cli.specs.declared.script.Event.TheVariants.{Open, Send, Up, Down, Cut, Time, Tick, Drain}
 
 -- the line of an event: words parted by one space, numbers in decimal digits, bytes in lower-case hex
 unfoldable pub event_text : Event → List ℕ
 event_text Open = codes "open"
-event_text (Send connection bytes) = codes "send " ++ decimal connection ++ 32 ∷ encode_lower bytes
+event_text (Send connection bytes) = codes "send " ++ spaced (decimal connection) (encode_lower bytes)
+event_text (Up connection first second) = codes "up " ++ spaced (decimal connection) (spaced (decimal first) (decimal second))
+event_text (Down connection limit) = codes "down " ++ spaced (decimal connection) (decimal limit)
+event_text (Cut connection) = codes "cut " ++ decimal connection
+event_text (Time now) = codes "time " ++ signed_decimal now
+event_text Tick = codes "tick"
 event_text Drain = codes "drain"
+
+-- a connection that was opened above
+abbrev pub IsOpen : ℕ → ℕ → Type 0
+IsOpen opened connection = (0 < connection) × (connection ≤ opened)
+
+abbrev pub IsCount : ℕ → Type 0
+IsCount n = n < 2 ^ 32
+
+-- a time in milliseconds
+abbrev pub IsTime : ℤ → Type 0
+IsTime now = (n : ℕ) × (now ≡ pos n) × (n < 4611686018427387904)
 
 -- an event that may stand where so many connections were opened above
 abbrev pub MayStand : ℕ → Event → Type 0
 MayStand opened Open = opened < 4096
-MayStand opened (Send connection bytes) = (0 < connection) × (connection ≤ opened) × (0 < length bytes) × IsBytes bytes
+MayStand opened (Send connection bytes) = IsOpen opened connection × IsPiece bytes
+MayStand opened (Up connection first second) = IsOpen opened connection × IsCount first × IsCount second
+MayStand opened (Down connection limit) = IsOpen opened connection × IsCount limit
+MayStand opened (Cut connection) = IsOpen opened connection
+MayStand opened (Time now) = IsTime now
+MayStand opened Tick = Unit {0}
 MayStand opened Drain = Unit {0}
 
-abbrev pub opened_after : ℕ → Event → ℕ
-opened_after opened Open = opened + 1
-opened_after opened (Send connection bytes) = opened
-opened_after opened Drain = opened
-
--- a line that says nothing: it is empty, or a comment
-abbrev pub IsSkipped : List ℕ → Type 0
-IsSkipped text = (text ≡ []) ⊎ ((comment : List ℕ) × (text ≡ 35 ∷ comment))
+-- how many connections it opens
+abbrev pub opened_by : Event → ℕ
+opened_by Open = 1
+opened_by event = 0
 
 -- these lines say these events, after so many opened connections
 abbrev pub Says : ℕ → List (List ℕ) → List Event → Type 0
-Says opened [] events = events ≡ []
-Says opened (text ∷ more) events = (IsSkipped text × Says opened more events)
-    ⊎ ((event : Event) × (rest : List Event) × (events ≡ event ∷ rest) × (text ≡ event_text event) × MayStand opened event
-    × Says (opened_after opened event) more rest)
-
--- lines end with a line feed, which the last may lack
-abbrev pub lines : List ℕ → List (List ℕ)
-lines script = slice_split (λ b. b == 10) script
+Says opened lines events = SaysBy event_text MayStand opened_by opened lines events
 
 -- the script is of the grammar, and these are its events
 abbrev pub IsScript : List ℕ → List Event → Type 0
 IsScript script events = Says 0 (lines script) events
 
+-- the script is outside the grammar, and this is its first line that fits no event where it stands
+abbrev pub IsFirstBadLine : List ℕ → ℕ → Type 0
+IsFirstBadLine script number = IsFirstBadBy event_text MayStand opened_by script number
+
 -- What its events come to
 
 -- how many connections are opened
 abbrev pub opened : List Event → ℕ
-opened [] = 0
-opened (Open ∷ events) = 1 + opened events
-opened (Send connection bytes ∷ events) = opened events
-opened (Drain ∷ events) = opened events
+opened events = counted opened_by events
+
+-- the bytes of a line `send`
+abbrev pub sent_by : Event → List ℕ
+sent_by (Send connection bytes) = bytes
+sent_by event = []
 
 -- the bytes of all lines `send`
 abbrev pub sent : List Event → List ℕ
 sent [] = []
-sent (Open ∷ events) = sent events
-sent (Send connection bytes ∷ events) = bytes ++ sent events
-sent (Drain ∷ events) = sent events
+sent (event ∷ events) = sent_by event ++ sent events
+
+abbrev pub is_drain : Event → Bool
+is_drain Drain = true
+is_drain event = false
 
 -- a `drain` is among them
 abbrev pub has_drain : List Event → Bool
 has_drain [] = false
-has_drain (Open ∷ events) = has_drain events
-has_drain (Send connection bytes ∷ events) = has_drain events
-has_drain (Drain ∷ events) = true
+has_drain (event ∷ events) = if is_drain event then true else has_drain events
 
 -- the events before the last `drain`
 abbrev pub before_last_drain : List Event → List Event
@@ -73,3 +89,10 @@ before_last_drain (event ∷ events) = if has_drain events then event ∷ before
 -- how many of the bytes of all lines `send` stand before the last `drain`
 abbrev pub drained : List Event → ℕ
 drained events = length (sent (before_last_drain events))
+
+-- a line `open`, `send` or `drain`: the only ones that are built
+abbrev pub is_plain : Event → Bool
+is_plain Open = true
+is_plain (Send connection bytes) = true
+is_plain Drain = true
+is_plain event = false

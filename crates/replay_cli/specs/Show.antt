@@ -4,7 +4,6 @@ use Rattle.std.specs.Option.{option_map_or}
 use Rattle.std.specs.Fmt.{decimal, signed_decimal}
 use Rattle.jute_core.specs.Frames.{frame}
 use Rattle.jute_core.specs.declared.cursor.Reason.{Reason}
-use Rattle.jute_core.specs.declared.cursor.Reason.TheVariants as reasons
 use Rattle.zk_frame.specs.Framing.{IsTooLong}
 use Rattle.zk_records.specs.Connect.{RefusedConnect}
 use Rattle.zk_messages.specs.Kinds.{kind_of}
@@ -17,6 +16,7 @@ use Rattle.zk_messages.specs.declared.request.Item.TheVariants.{Asks, Requests}
 use Rattle.zk_messages.specs.declared.request.Request.{Request}
 use Rattle.zk_messages.specs.declared.request.Request.TheVariants as requests
 use Rattle.replay_cli.specs.Printed.{line, field, bytes_text}
+use Rattle.replay_cli.specs.Reasons.{reason_name}
 use Rattle.replay_cli.specs.declared.show.Frame.{Frame}
 use Rattle.replay_cli.specs.declared.show.Ending.{Ending}
 use Rattle.replay_cli.specs.declared.show.Ending.TheVariants.{Finished, CutShort, Malformed, TooLong}
@@ -103,16 +103,6 @@ request_path (requests.SetWatches r) = []
 request_path (requests.Auth body) = []
 request_path requests.Close = []
 request_path (requests.Unknown kind body) = []
-
-unfoldable pub reason_name : Reason → List ℕ
-reason_name reasons.Short = codes "short"
-reason_name reasons.BadLength = codes "bad-length"
-reason_name reasons.BadBool = codes "bad-bool"
-reason_name reasons.BadUtf8 = codes "bad-utf8"
-reason_name reasons.Trailing = codes "trailing"
-reason_name reasons.BadType = codes "bad-type"
-reason_name reasons.BadXid = codes "bad-xid"
-reason_name reasons.BadHeader = codes "bad-header"
 
 -- what its line says of an item
 abbrev pub item_text : Item → List ℕ

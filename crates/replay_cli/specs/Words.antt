@@ -33,13 +33,17 @@ abbrev pub IsStress : Words → Type 0
 IsStress words = IsCalled words 4 (codes "stress")
     × IsNumber 0 (2 ^ 64 - 1) (word words 1) × IsNumber 1 64 (word words 2) × IsNumber 0 100000 (word words 3)
 
--- the commands that are not built yet
+-- the command that is not built yet
 abbrev pub IsUnbuilt : Words → Type 0
-IsUnbuilt words = IsHostile words ⊎ IsStress words
+IsUnbuilt words = IsStress words
+
+-- the commands that read a key and a script
+abbrev pub IsKeyed : Words → Type 0
+IsKeyed words = IsReplay words ⊎ IsHostile words
 
 -- the commands that read files
 abbrev pub ReadsFiles : Words → Type 0
-ReadsFiles words = IsReplay words ⊎ IsShow words
+ReadsFiles words = IsKeyed words ⊎ IsShow words
 
 -- a row fits
 abbrev pub Fits : Words → Type 0
@@ -47,5 +51,5 @@ Fits words = ReadsFiles words ⊎ IsUnbuilt words
 
 -- the name of a file that they read
 abbrev pub IsFileOf : Words → List ℕ → Type 0
-IsFileOf words name = (IsReplay words × ((name ≡ word words 1) ⊎ (name ≡ word words 2)))
+IsFileOf words name = (IsKeyed words × ((name ≡ word words 1) ⊎ (name ≡ word words 2)))
     ⊎ (IsShow words × (name ≡ word words 1))

@@ -1,24 +1,35 @@
 //! The program's top calls, over files and sinks that are handed in.
 //!
 //! `run` reads the words of a command line, the files that they name, and prints what the command gives. It stands on
-//! `jute_core` for the small types and on `hex` for printed bytes. Read first: `run`, then `read_script`, then the traits
-//! `Files` and `Sink`, which are all that it knows of the outside.
+//! `world_core` for replays, on `entry_session` for hostile scripts, on `jute_core` for the small types and on `hex` for
+//! printed bytes. Read first: `run`, then `read_script`, then the traits `Files` and `Sink`, which are all that it knows of
+//! the outside.
 #![tactic(auto)]
 
 mod files;
+mod findings;
+mod hostile;
+mod hostile_script;
+mod lines;
+mod loading;
 mod numbers;
 mod printed;
+mod replay;
 mod script;
 mod show;
 mod sinks;
+mod stops;
 mod top_call;
 mod words;
 
 pub use files::{FileFault, Files, MemoryFiles, NamedFile, RealFiles};
+pub use hostile_script::{HostileEvent, HostileEvents, read_hostile_script};
+pub use lines::NotScript;
 pub use script::{Event, Events, Said, read_script, said_of};
 pub use show::{Ending, Frame, one_show, show_frames};
 pub use sinks::{Failed, MemorySink, Sink, StdSink};
-pub use top_call::{Status, run, say_no_memory};
+pub use stops::Status;
+pub use top_call::{run, say_no_memory};
 
 #[cfg(test)]
 mod tests;

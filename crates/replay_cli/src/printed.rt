@@ -1,10 +1,11 @@
 //! The printed texts.
 
 ghost use Rattle.std.specs.Prelude.{◌≡◌, ◌++◌, IfOk, OnOk, string_bytes};
-ghost use Rattle.std.specs.Fmt.{signed_decimal};
+ghost use Rattle.std.specs.Fmt.{decimal, signed_decimal};
 ghost use Rattle.replay_cli.specs.Printed.{line, bytes_text, connection_text, field, line_feed, entry_text, lost_text, expire_text, entries_text, order_text};
+ghost use Rattle.replay_cli.specs.Reasons.{reason_name, refusal_text};
 
-use jute_core::Memory;
+use jute_core::{Memory, Reason, Refusal};
 use std::alloc::{AllocError, Global};
 use tree_server::Entry;
 
@@ -75,8 +76,60 @@ pub fn push_number(alloc: Global, into: &mut String, word: &str, value: i64) -> 
     push_field(into, word, text.as_str())
 }
 
+/// Appends a word and a number of an i32.
+pub fn push_int(alloc: Global, into: &mut String, word: &str, value: i32) -> Result<(), Memory>
+    ensures { OnOk result (string_bytes into.new ≡ string_bytes into.old ++ field word.now
+        (signed_decimal value)) }
+{
+    let text = value.to_string(alloc)?;
+    push_field(into, word, text.as_str())
+}
+
+/// Appends a word and a number without a sign.
+pub fn push_count(alloc: Global, into: &mut String, word: &str, value: u64) -> Result<(), Memory>
+    ensures { OnOk result (string_bytes into.new ≡ string_bytes into.old ++ field word.now
+        (decimal value)) }
+{
+    let text = value.to_string(alloc)?;
+    push_field(into, word, text.as_str())
+}
+
+/// How the reason of a refusal is printed.
+#[tactic(auto, unfolding(crate::specs::Reasons::reason_name))]
+pub fn reason_name(reason: Reason) -> &'static str
+    ensures { result.now ≡ reason_name reason }
+{
+    match reason {
+        Reason::Short => "short",
+        Reason::BadLength => "bad-length",
+        Reason::BadBool => "bad-bool",
+        Reason::BadUtf8 => "bad-utf8",
+        Reason::Trailing => "trailing",
+        Reason::BadType => "bad-type",
+        Reason::BadXid => "bad-xid",
+        Reason::BadHeader => "bad-header",
+    }
+}
+
+/// Appends a word, and where and why what it names was malformed.
+pub fn push_refusal(
+    alloc: Global,
+    into: &mut String,
+    word: &str,
+    refusal: Refusal,
+) -> Result<(), Memory>
+    ensures { OnOk result
+        (string_bytes into.new ≡ string_bytes into.old ++ refusal_text word.now refusal) }
+{
+    let place = refusal.place.to_string(alloc)?;
+    push_field(into, word, place.as_str())?;
+    push_field(into, " ", reason_name(refusal.reason))?;
+    Ok(())
+}
+
+/// Ends a line.
 #[tactic(auto, unfolding(crate::specs::Printed::line_feed))]
-fn end_line(into: &mut String) -> Result<(), Memory>
+pub fn end_line(into: &mut String) -> Result<(), Memory>
     ensures { OnOk result (string_bytes into.new ≡ string_bytes into.old ++ line_feed) }
 {
     into.push_str("\n")?;

@@ -1,15 +1,15 @@
 //! Replay scripts: their events, and the reader of their grammar.
 
-ghost use Rattle.std.specs.Prelude.{◌≡◌, List, ℕ, [], ◌∷◌, ◌++◌, ◌+◌, ◌-◌, ◌^◌, ◌<◌, ◌≤◌, ◌==◌, IfOk, IfSome, IfNone, IsTrue, false, length, vec_len, position, codes, ◌↔◌};
-ghost use Rattle.std.specs.Option.{option_copied};
+ghost use Rattle.std.specs.Prelude.{◌≡◌, ◌≢◌, List, ℕ, ℤ, [], ◌∷◌, ◌++◌, ◌-◌, ◌^◌, ◌<◌, ◌≤◌, IfOk, IfErr, IfSome, IfNone, IsTrue, false, vec_len};
+ghost use Rattle.std.specs.List.{list_all};
 ghost use Rattle.std.specs.Fmt.{decimal};
-ghost use Rattle.hex.specs.Hex.{encode_lower};
 ghost use Rattle.replay_cli.specs.declared.script.Event.{Event};
-ghost use Rattle.replay_cli.specs.Script.{event_text, MayStand, opened_after, IsSkipped, IsScript, lines, opened, sent, drained};
-ghost use Rattle.replay_cli.specs.Reading.{HasNoSpace, IsHex, IsSend, TakesLine, view, lines_after, Adds};
+ghost use Rattle.replay_cli.specs.Lines.{spaced};
+ghost use Rattle.replay_cli.specs.Script.{event_text, IsOpen, IsCount, MayStand, opened_by, IsScript, IsFirstBadLine, opened, sent, drained, is_plain};
+ghost use Rattle.replay_cli.specs.Reading.{TakesBy, RefusesBy, IsFaultOf, IsCounted, IsEvent, Adds};
 
+use crate::lines::{NotScript, behind, first_line, hex_bytes, is_skipped, number_before};
 use crate::numbers::number_of;
-use hex::FromHexError;
 use jute_core::{Bytes, Memory};
 use std::alloc::Global;
 use std::marker::Model;
@@ -17,13 +17,37 @@ use std::marker::Model;
 /// The most connections that a script may open.
 const CONNECTIONS: u32 = 4096;
 
-/// What a line of a script asks for.
+/// What a line of a script asks for. Connections are numbered from 1 as they are opened.
 #[derive(Debug, Drop)]
 pub enum Event {
     /// A further connection is opened.
     Open,
-    /// The client of a connection sends bytes. Connections are numbered from 1 as they are opened.
-    Send { connection: u32, bytes: Bytes },
+    /// The client of a connection sends bytes.
+    Send {
+        connection: u32,
+        bytes: Bytes,
+    },
+    /// Up to `first` bytes of the client go into its session, and then up to `second` of the bytes handed up to the store.
+    Up {
+        connection: u32,
+        first: u32,
+        second: u32,
+    },
+    /// Up to `limit` bytes of the store go through the session to the client.
+    Down {
+        connection: u32,
+        limit: u32,
+    },
+    /// The client's end is cut off.
+    Cut {
+        connection: u32,
+    },
+    /// It is so many milliseconds now.
+    Time {
+        now: i64,
+    },
+    /// The store ends the sessions whose time is up.
+    Tick,
     /// All that is under way is delivered.
     Drain,
 }
@@ -59,126 +83,196 @@ impl Events {
     }
 }
 
-// Where the first line feed is.
-fn place_of_feed(text: &[u8]) -> Option<usize>
-    ensures place { result ≡ position (λ b. b == 10) text.now }
-    ensures within { IfSome result (λ at. at < length text.now) }
+/// The first text that is no time.
+const TIME_END: u64 = 4_611_686_018_427_387_904;
+
+// The connection that stands before a space, and what follows that.
+fn connection_before(text: &[u8], opened: u32) -> Option<(u32, &[u8])>
+    ensures found { IfSome result (λ parts. IsOpen opened parts.0
+        × (text.now ≡ spaced (decimal parts.0) parts.1.now)) }
+    ensures none { IfNone result ((c : ℕ) (rest : List ℕ) → IsOpen opened c
+        → text.now ≢ spaced (decimal c) rest) }
 {
-    text.iter().position(|b| *b == b'\n')
+    let Some((number, rest)) = number_before(text, opened as u64) else {
+        return None;
+    };
+    if number == 0 {
+        return None;
+    }
+    Some((number as u32, rest))
 }
 
-// The first line, and what follows its line feed.
-fn first_line(text: &[u8]) -> (&[u8], Option<&[u8]>)
-    ensures { lines text.now ≡ result.0.now ∷ lines_after (option_copied result.1) }
+// The count that a text says.
+fn count_of(text: &[u8]) -> Option<u32>
+    ensures found { IfSome result (λ n. text.now ≡ decimal n) }
+    ensures none { IfNone result ((n : ℕ) → IsCount n → text.now ≢ decimal n) }
 {
-    match place_of_feed(text) {
-        Some(at) => {
-            let (line, _) = text.split_at(at);
-            let (_, rest) = text.split_at(at + 1);
-            (line, Some(rest))
-        }
-        None => (text, None),
+    match number_of(text, u32::MAX as u64) {
+        Some(number) => Some(number as u32),
+        None => None,
     }
 }
 
-// Where the first space is.
-fn place_of_space(text: &[u8]) -> Option<usize>
-    ensures place { result ≡ position (λ b. b == 32) text.now }
-    ensures within { IfSome result (λ at. at < length text.now) }
-{
-    text.iter().position(|b| *b == b' ')
-}
-
-// What stands before the first space, and what after it.
-fn first_word(text: &[u8]) -> Option<(&[u8], &[u8])>
-    ensures found { IfSome result (λ parts. (text.now ≡ parts.0.now ++ 32 ∷ parts.1.now)
-        × HasNoSpace parts.0.now) }
-    ensures none { IfNone result (HasNoSpace text.now) }
-{
-    let at = place_of_space(text)?;
-    let (word, _) = text.split_at(at);
-    let (_, rest) = text.split_at(at + 1);
-    Some((word, rest))
-}
-
-// The bytes that a text of lower-case hex digits spells.
-fn bytes_of(alloc: Global, digits: &[u8]) -> Result<Option<Bytes>, Memory>
-    ensures found { IfOk result (λ o. IfSome o (λ bytes. IsHex digits.now bytes)) }
-    ensures none { IfOk result (λ o. IfNone o ((bytes : List ℕ) → IsHex digits.now bytes → ⊥)) }
-{
-    let bytes = match hex::decode(alloc, digits) {
-        Ok(bytes) => bytes,
-        Err(fault) => match fault {
-            FromHexError::OutOfMemory => return Err(Memory),
-            _ => return Ok(None),
-        },
-    };
-    let bytes = Bytes::of(bytes);
-    if bytes.len() == 0 {
-        return Ok(None);
-    }
-    let again = hex::encode(alloc, bytes.as_slice())?;
-    if again.as_bytes() == digits {
-        Ok(Some(bytes))
-    } else {
-        Ok(None)
-    }
-}
-
-// The connection and the bytes of a line `send`, from what follows that word.
-fn send_of(alloc: Global, text: &[u8], opened: u32) -> Result<Option<Event>, Memory>
-    ensures found { IfOk result (λ o. IfSome o (λ event. IsSend text.now opened event)) }
-    ensures none { IfOk result (λ o. IfNone o ((event : Event) → IsSend text.now opened event
-        → ⊥)) }
-{
-    let Some((number, digits)) = first_word(text) else {
-        return Ok(None);
-    };
-    let Some(connection) = number_of(number, opened as u64) else {
-        return Ok(None);
-    };
-    if connection == 0 {
-        return Ok(None);
-    }
-    let Some(bytes) = bytes_of(alloc, digits)? else {
-        return Ok(None);
-    };
-    Ok(Some(Event::Send {
-        connection: connection as u32,
-        bytes,
-    }))
-}
-
-// The event that a line asks for, where so many connections were opened above.
+// The event of a line that is one word.
 #[tactic(auto, unfolding(crate::specs::Script::event_text))]
-fn event_of(alloc: Global, line: &[u8], opened: u32) -> Result<Option<Event>, Memory>
-    ensures found { IfOk result (λ o. IfSome o (λ event. (line.now ≡ event_text event)
-        × MayStand opened event)) }
-    ensures none { IfOk result (λ o. IfNone o ((event : Event) → line.now ≡ event_text event
-        → MayStand opened event → ⊥)) }
+fn word_of(line: &[u8], opened: u32) -> Option<Event>
+    ensures found { IfSome result (λ event. IsEvent line.now opened event) }
+    ensures none { IfNone result ((IsEvent line.now opened Event.Open → ⊥)
+        × (IsEvent line.now opened Event.Tick → ⊥) × (IsEvent line.now opened Event.Drain → ⊥)) }
 {
     if line == b"open".as_slice() {
-        return Ok(if opened < CONNECTIONS {
+        return if opened < CONNECTIONS {
             Some(Event::Open)
         } else {
             None
-        });
+        };
+    }
+    if line == b"tick".as_slice() {
+        return Some(Event::Tick);
     }
     if line == b"drain".as_slice() {
-        return Ok(Some(Event::Drain));
+        return Some(Event::Drain);
     }
-    let Some(text) = line.strip_prefix(b"send ") else {
-        return Ok(None);
-    };
-    send_of(alloc, text, opened)
+    None
 }
 
-// Whether a line says nothing.
-fn is_skipped(line: &[u8]) -> bool
-    ensures yes { IsTrue result → IsSkipped line.now }
-    ensures not_so { result ≡ false → IsSkipped line.now → ⊥ }
+// The event of a line `send`.
+#[tactic(auto, unfolding(crate::specs::Script::event_text))]
+fn send_of(alloc: Global, line: &[u8], opened: u32) -> Result<Option<Event>, Memory>
+    ensures found { IfOk result (λ o. IfSome o (λ event. IsEvent line.now opened event)) }
+    ensures none { IfOk result (λ o. IfNone o ((c : ℕ) (bytes : List ℕ)
+        → IsEvent line.now opened (Event.Send c bytes) → ⊥)) }
 {
-    line.is_empty() || line[0] == b'#'
+    let Some(text) = behind(line, b"send ") else {
+        return Ok(None);
+    };
+    let Some((connection, digits)) = connection_before(text, opened) else {
+        return Ok(None);
+    };
+    let Some(bytes) = hex_bytes(alloc, digits)? else {
+        return Ok(None);
+    };
+    Ok(Some(Event::Send { connection, bytes }))
+}
+
+// The event of a line `up`.
+#[tactic(auto, unfolding(crate::specs::Script::event_text))]
+fn up_of(line: &[u8], opened: u32) -> Option<Event>
+    ensures found { IfSome result (λ event. IsEvent line.now opened event) }
+    ensures none { IfNone result ((c first second : ℕ)
+        → IsEvent line.now opened (Event.Up c first second) → ⊥) }
+{
+    let Some(text) = behind(line, b"up ") else {
+        return None;
+    };
+    let Some((connection, counts)) = connection_before(text, opened) else {
+        return None;
+    };
+    let Some((first, rest)) = number_before(counts, u32::MAX as u64) else {
+        return None;
+    };
+    let Some(second) = count_of(rest) else {
+        return None;
+    };
+    Some(Event::Up {
+        connection,
+        first: first as u32,
+        second,
+    })
+}
+
+// The event of a line `down`.
+#[tactic(auto, unfolding(crate::specs::Script::event_text))]
+fn down_of(line: &[u8], opened: u32) -> Option<Event>
+    ensures found { IfSome result (λ event. IsEvent line.now opened event) }
+    ensures none { IfNone result ((c limit : ℕ) → IsEvent line.now opened (Event.Down c limit)
+        → ⊥) }
+{
+    let Some(text) = behind(line, b"down ") else {
+        return None;
+    };
+    let Some((connection, count)) = connection_before(text, opened) else {
+        return None;
+    };
+    let Some(limit) = count_of(count) else {
+        return None;
+    };
+    Some(Event::Down { connection, limit })
+}
+
+// The event of a line `cut`.
+#[tactic(auto, unfolding(crate::specs::Script::event_text))]
+fn cut_of(line: &[u8], opened: u32) -> Option<Event>
+    ensures found { IfSome result (λ event. IsEvent line.now opened event) }
+    ensures none { IfNone result ((c : ℕ) → IsEvent line.now opened (Event.Cut c) → ⊥) }
+{
+    let Some(text) = behind(line, b"cut ") else {
+        return None;
+    };
+    let Some(connection) = number_of(text, opened as u64) else {
+        return None;
+    };
+    if connection == 0 {
+        return None;
+    }
+    Some(Event::Cut {
+        connection: connection as u32,
+    })
+}
+
+// The event of a line `time`.
+#[tactic(auto, unfolding(crate::specs::Script::event_text))]
+fn time_of(line: &[u8], opened: u32) -> Option<Event>
+    ensures found { IfSome result (λ event. IsEvent line.now opened event) }
+    ensures none { IfNone result ((now : ℤ) → IsEvent line.now opened (Event.Time now) → ⊥) }
+{
+    let Some(text) = behind(line, b"time ") else {
+        return None;
+    };
+    let Some(now) = number_of(text, TIME_END - 1) else {
+        return None;
+    };
+    Some(Event::Time { now: now as i64 })
+}
+
+// The event that a line asks for, where so many connections were opened above.
+fn event_of(alloc: Global, line: &[u8], opened: u32) -> Result<Option<Event>, Memory>
+    ensures found { IfOk result (λ o. IfSome o (λ event. IsEvent line.now opened event)) }
+    ensures none { IfOk result (λ o. IfNone o ((event : Event) → IsEvent line.now opened event
+        → ⊥)) }
+{
+    if let Some(event) = send_of(alloc, line, opened)? {
+        return Ok(Some(event));
+    }
+    if let Some(event) = word_of(line, opened) {
+        return Ok(Some(event));
+    }
+    if let Some(event) = up_of(line, opened) {
+        return Ok(Some(event));
+    }
+    if let Some(event) = down_of(line, opened) {
+        return Ok(Some(event));
+    }
+    if let Some(event) = cut_of(line, opened) {
+        return Ok(Some(event));
+    }
+    Ok(time_of(line, opened))
+}
+
+// How many connections an event opens.
+fn opened_by(event: &Event) -> u32
+    ensures { result ≡ opened_by event.now }
+{
+    match event {
+        Event::Open => 1,
+        Event::Send { .. } => 0,
+        Event::Up { .. } => 0,
+        Event::Down { .. } => 0,
+        Event::Cut { .. } => 0,
+        Event::Time { .. } => 0,
+        Event::Tick => 0,
+        Event::Drain => 0,
+    }
 }
 
 // What was read so far: the events, and how many connections they open.
@@ -190,25 +284,24 @@ struct Reader {
 
 impl Reader {
     fn push(&mut self, event: Event) -> Result<(), Memory>
-        requires { MayStand self.old.opened event }
+        requires counted { IsCounted self.old }
+        requires may { MayStand self.old.opened event }
         ensures { IfOk result (λ _.
-            (self.new.events.items ≡ self.old.events.items ++ event ∷ [])
-            × (self.new.opened ≡ opened_after self.old.opened event)) }
+            (self.new.events.items ≡ self.old.events.items ++ event ∷ []) × IsCounted self.new) }
     {
-        if matches!(&event, Event::Open) {
-            self.opened += 1;
-        }
+        self.opened += opened_by(&event);
         self.events.push(event)?;
         Ok(())
     }
 
     // Takes a line, or answers that it does not fit there.
     fn take(&mut self, alloc: Global, line: &[u8]) -> Result<bool, Memory>
-        ensures taken { IfOk result (λ fits. IsTrue fits
-            → TakesLine (view self.old) line.now (view self.new)) }
-        ensures refused { IfOk result (λ fits. fits ≡ false → (IsSkipped line.now → ⊥)
-            × ((event : Event) → line.now ≡ event_text event → MayStand self.old.opened event
-            → ⊥)) }
+        requires { IsCounted self.old }
+        ensures counted { IfOk result (λ _. IsCounted self.new) }
+        ensures taken { IfOk result (λ fits. IsTrue fits → TakesBy event_text MayStand opened_by
+            self.old.events.items line.now self.new.events.items) }
+        ensures refused { IfOk result (λ fits. fits ≡ false → RefusesBy event_text MayStand
+            opened_by self.old.events.items line.now) }
     {
         if is_skipped(line) {
             return Ok(true);
@@ -221,25 +314,34 @@ impl Reader {
     }
 }
 
-/// The events of a script; `None` exactly where the text is outside the grammar. One pass over the text.
-pub fn read_script(alloc: Global, text: &[u8]) -> Result<Option<Events>, Memory>
-    ensures found { IfOk result (λ o. IfSome o (λ events. IsScript text.now events)) }
-    ensures none { IfOk result (λ o. IfNone o ((events : List Event) → IsScript text.now events
-        → ⊥)) }
+/// The events of a script. One pass over the text.
+///
+/// # Errors
+/// `BadLine` exactly where the text is outside the grammar, with the first line that fits no event where it stands; or
+/// want of memory.
+pub fn read_script(alloc: Global, text: &[u8]) -> Result<Events, NotScript>
+    ensures ok { IfOk result (λ events. IsScript text.now events) }
+    ensures only { IfOk result (λ events. (other : List Event) → IsScript text.now other
+        → other ≡ events) }
+    ensures bad { IfErr result (IsFaultOf (IsFirstBadLine text.now)) }
+    ensures outside { IfErr result (IsFaultOf (λ _. (events : List Event)
+        → IsScript text.now events → ⊥)) }
 {
     let mut reader = Reader {
         events: Vec::new(alloc),
         opened: 0,
     };
     let mut rest = Some(text);
+    let mut above = 0;
     while let Some(lines) = rest {
         let (line, more) = first_line(lines);
         if !reader.take(alloc, line)? {
-            return Ok(None);
+            return Err(NotScript::BadLine { line: above + 1 });
         }
         rest = more;
+        above += 1;
     }
-    Ok(Some(Events::of(reader.events)))
+    Ok(Events::of(reader.events))
 }
 
 /// What the events of a script come to.
@@ -262,6 +364,11 @@ fn add(said: &mut Said, event: &Event) -> Result<(), Memory>
         Event::Open => said.opened += 1,
         Event::Send { bytes, .. } => said.sent.extend_from_slice(bytes.as_slice())?,
         Event::Drain => said.drained = said.sent.len(),
+        Event::Up { .. } => {}
+        Event::Down { .. } => {}
+        Event::Cut { .. } => {}
+        Event::Time { .. } => {}
+        Event::Tick => {}
     }
     Ok(())
 }
@@ -281,4 +388,26 @@ pub fn said_of(alloc: Global, events: &[Event]) -> Result<Said, Memory>
         add(&mut said, event)?;
     }
     Ok(said)
+}
+
+fn is_plain(event: &Event) -> bool
+    ensures { result ≡ is_plain event.now }
+{
+    match event {
+        Event::Open => true,
+        Event::Send { .. } => true,
+        Event::Drain => true,
+        Event::Up { .. } => false,
+        Event::Down { .. } => false,
+        Event::Cut { .. } => false,
+        Event::Time { .. } => false,
+        Event::Tick => false,
+    }
+}
+
+/// Whether all events are lines `open`, `send` and `drain`.
+pub fn are_plain(events: &[Event]) -> bool
+    ensures { result ≡ list_all is_plain events.now }
+{
+    events.iter().all(|event| is_plain(event))
 }

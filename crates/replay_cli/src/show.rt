@@ -9,11 +9,11 @@ ghost use Rattle.zk_messages.specs.declared.request.Item.TheVariants.{Requests};
 ghost use Rattle.replay_cli.specs.declared.show.Ending.TheVariants.{Malformed};
 ghost use Rattle.zk_messages.specs.Items.{IsItem};
 ghost use Rattle.zk_messages.specs.Sent.{client_limit};
-ghost use Rattle.replay_cli.specs.Show.{IsEnding, RefusedItem, kind_name, request_name, request_path, reason_name, item_text, frame_text, ending_text, IsShown};
+ghost use Rattle.replay_cli.specs.Show.{IsEnding, RefusedItem, kind_name, request_name, request_path, item_text, frame_text, ending_text, IsShown};
 ghost use Rattle.replay_cli.specs.Showing.{IsNext, AddsLine};
 
-use crate::printed::{bytes_text, push_field, push_line, push_number};
-use jute_core::{Memory, NotRead, Reason, Refusal};
+use crate::printed::{bytes_text, push_field, push_line, push_number, reason_name};
+use jute_core::{Memory, NotRead, Refusal};
 use std::alloc::Global;
 use zk_messages::{Item, Kind, Request, read_request};
 use zk_records::read_connect;
@@ -176,22 +176,6 @@ fn request_path(request: &Request) -> &str
         Request::Auth(_) => "",
         Request::Close => "",
         Request::Unknown { .. } => "",
-    }
-}
-
-#[tactic(auto, unfolding(crate::specs::Show::reason_name))]
-fn reason_name(reason: Reason) -> &'static str
-    ensures { result.now ≡ reason_name reason }
-{
-    match reason {
-        Reason::Short => "short",
-        Reason::BadLength => "bad-length",
-        Reason::BadBool => "bad-bool",
-        Reason::BadUtf8 => "bad-utf8",
-        Reason::Trailing => "trailing",
-        Reason::BadType => "bad-type",
-        Reason::BadXid => "bad-xid",
-        Reason::BadHeader => "bad-header",
     }
 }
 

@@ -83,26 +83,48 @@ fn scripts_that_send_nothing(rt: HostRuntime) -> Result<(), Fail> {
 #[test]
 fn lines_outside_the_grammar(rt: HostRuntime) -> Result<(), Fail> {
     let alloc = rt.alloc();
-    for script in [
-        b"open\nopen\n".as_slice(),
-        b"open \n".as_slice(),
-        b"drain all\n".as_slice(),
-        b"open\r\n".as_slice(),
-        b"send 1 00\n".as_slice(),
-        b"open\nsend 2 00\n".as_slice(),
-        b"open\nsend 01 00\n".as_slice(),
-        b"open\nsend 0 00\n".as_slice(),
-        b"open\nsend 1  00\n".as_slice(),
-        b"open\nsend 1 0\n".as_slice(),
-        b"open\nsend 1 0A\n".as_slice(),
-        b"open\nsend 1 \n".as_slice(),
-        b" open\n".as_slice(),
-        b"\xff\n".as_slice(),
+    for (script, complaint) in [
+        (b"open \n".as_slice(), b"script line 1\n".as_slice()),
+        (b"drain all\n".as_slice(), b"script line 1\n".as_slice()),
+        (b"open\r\n".as_slice(), b"script line 1\n".as_slice()),
+        (b"send 1 00\n".as_slice(), b"script line 1\n".as_slice()),
+        (
+            b"open\nsend 2 00\n".as_slice(),
+            b"script line 2\n".as_slice(),
+        ),
+        (
+            b"open\nsend 01 00\n".as_slice(),
+            b"script line 2\n".as_slice(),
+        ),
+        (
+            b"open\nsend 0 00\n".as_slice(),
+            b"script line 2\n".as_slice(),
+        ),
+        (
+            b"open\nsend 1  00\n".as_slice(),
+            b"script line 2\n".as_slice(),
+        ),
+        (
+            b"open\nsend 1 0A\n".as_slice(),
+            b"script line 2\n".as_slice(),
+        ),
+        (b"open\nsend 1 \n".as_slice(), b"script line 2\n".as_slice()),
+        (b"#\n\nup 1 0 0\n".as_slice(), b"script line 3\n".as_slice()),
+        (
+            b"open\nup 1 0 4294967296".as_slice(),
+            b"script line 2\n".as_slice(),
+        ),
+        (
+            b"time 4611686018427387904\n".as_slice(),
+            b"script line 1\n".as_slice(),
+        ),
+        (b" open\n".as_slice(), b"script line 1\n".as_slice()),
+        (b"\xff\n".as_slice(), b"script line 1\n".as_slice()),
     ] {
         let ran = replayed(alloc, script, &[], &[], &[])?;
-        assert!(rt; ran.status == Status::NotBuilt);
+        assert!(rt; ran.status == Status::ScriptMalformed);
         assert_eq!(rt; ran.out.taken().len(), 0);
-        assert_eq!(rt; ran.err.taken(), b"not built\n".as_slice());
+        assert_eq!(rt; ran.err.taken(), complaint);
     }
     Ok(())
 }
@@ -134,14 +156,37 @@ fn words_of_no_row(rt: HostRuntime) -> Result<(), Fail> {
 #[test]
 fn what_is_not_built(rt: HostRuntime) -> Result<(), Fail> {
     let alloc = rt.alloc();
-    for (words, key) in [
-        (["replay", "key", "script"].as_slice(), 63),
-        (["hostile", "key", "script"].as_slice(), 64),
-        (["stress", "18446744073709551615", "64", "0"].as_slice(), 64),
+    let stress = ran(alloc, &["stress", "18446744073709551615", "64", "0"], 64)?;
+    assert!(rt; stress.status == Status::NotBuilt);
+    assert_eq!(rt; stress.err.taken(), b"not built\n".as_slice());
+    for script in [
+        b"open\nopen\n".as_slice(),
+        b"open\nup 1 4294967295 0\n".as_slice(),
+        b"open\ndown 1 7\n".as_slice(),
+        b"open\ncut 1\n".as_slice(),
+        b"time 4611686018427387903\n".as_slice(),
+        b"tick\n".as_slice(),
     ] {
-        let ran = ran(alloc, words, key)?;
+        let ran = replayed(alloc, script, &[], &[], &[])?;
         assert!(rt; ran.status == Status::NotBuilt);
         assert_eq!(rt; ran.err.taken(), b"not built\n".as_slice());
+    }
+    Ok(())
+}
+
+#[test]
+fn keys_of_no_key_file(rt: HostRuntime) -> Result<(), Fail> {
+    let alloc = rt.alloc();
+    for (command, key, complaint) in [
+        ("replay", 63, b"key of 63 bytes\n".as_slice()),
+        ("replay", 65, b"key of 65 bytes\n".as_slice()),
+        ("hostile", 0, b"key of 0 bytes\n".as_slice()),
+        ("hostile", 4160, b"key of 4160 bytes\n".as_slice()),
+    ] {
+        let ran = ran(alloc, &[command, "key", "absent"], key)?;
+        assert!(rt; ran.status == Status::KeyMalformed);
+        assert_eq!(rt; ran.out.taken().len(), 0);
+        assert_eq!(rt; ran.err.taken(), complaint);
     }
     Ok(())
 }

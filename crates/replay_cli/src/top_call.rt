@@ -1,207 +1,30 @@
 //! The top call.
 
-ghost use Rattle.std.specs.Prelude.{◌≡◌, ◌≢◌, ℕ, ◌≤◌, ◌<◌, ◌⊎◌, List, ◌++◌, Some, IfOk, IfErr, string_bytes, length, replicate, codes, [], if◌then◌else◌};
-ghost use Rattle.replay_cli.specs.Printed.{line, world_text};
+ghost use Rattle.std.specs.Prelude.{◌≡◌, ◌≢◌, ℕ, ◌≤◌, ◌⊎◌, List, ◌++◌, Some, IfOk, IfErr, string_bytes, codes, []};
+ghost use Rattle.replay_cli.specs.Printed.{line};
 ghost use Rattle.jute_core.specs.Faults.{Rose, Wrote, WroteFront};
-ghost use Rattle.replay_cli.specs.Told.{Told, Agrees};
-ghost use Rattle.replay_cli.specs.Counts.{next};
-ghost use Rattle.replay_cli.specs.Words.{word, Fits, ReadsFiles, IsShow, IsUnbuilt};
-ghost use Rattle.replay_cli.specs.declared.script.Event.{Event};
-ghost use Rattle.replay_cli.specs.Script.{IsScript};
-ghost use Rattle.replay_cli.specs.Run.{shown, MayHold, IsTooLong, IsBuilt, IsBuiltScript, CannotBuild, PrintsEvents, IsReplayText, IsShownText, Prints, IsLongOf, HasLong, StopsAtFile, IsNotBuilt};
+ghost use Rattle.replay_cli.specs.Words.{Fits, ReadsFiles, IsUnbuilt};
+ghost use Rattle.replay_cli.specs.Run.{IsTooLong, IsShownText, Prints, HasLong, HasBadKey, HasBadLine, StopsAtFile, StopsAtKey, StopsAtLine, IsNotBuilt};
 ghost use Rattle.replay_cli.specs.Sinks.{ReportsFault, FailsToReport};
-ghost use Rattle.replay_cli.specs.Stops.{exit_status, Because, status_of, complaint_of, unread_line, too_long_line, IsUnreadOf, IsUnread, IsLine, Complains};
+ghost use Rattle.replay_cli.specs.Stops.{Because, BecauseOfFile, status_of, complaint_of, unread_line, too_long_line, bad_key_line, bad_script_line, IsUnread, IsLine, Complains};
 
-use crate::files::{FileFault, Files};
-use crate::printed::{push_connection, push_line, push_order};
-use crate::script::{Event, read_script, said_of};
+use crate::files::Files;
+use crate::hostile::hostile;
+use crate::loading::load;
+use crate::replay::replay;
 use crate::show::show_frames;
 use crate::sinks::Sink;
+use crate::stops::{Status, Stop, complaint, status_of};
 use crate::words::{Command, command_of};
-use jute_core::{Bytes, Memory};
 use std::alloc::Global;
-use world_core::{FirstRun, NotFirst, first_run};
-
-/// The most bytes that a file may have.
-const FILE_LIMIT: u64 = 268_435_456;
-
-/// The bytes of a key file.
-const KEY_LENGTH: usize = 64;
-
-/// How a run ended.
-#[derive(Clone, Copy, Debug, Drop, PartialEq, Eq)]
-pub enum Status {
-    /// All was printed.
-    Done,
-    /// The words fit no command.
-    BadWords,
-    /// A file could not be read.
-    ReadFault,
-    /// A file has more bytes than are read.
-    InputTooLong,
-    /// The command, or the form of its files, is not built yet.
-    NotBuilt,
-    /// What was to be printed, or the line of another status, could not be written.
-    WriteFault,
-    /// There was no memory.
-    Memory,
-}
-
-impl Status {
-    /// The exit status of the program.
-    pub fn code(self) -> u8
-        ensures { result ≡ exit_status self }
-    {
-        match self {
-            Status::Done => 0,
-            Status::BadWords => 2,
-            Status::ReadFault => 3,
-            Status::WriteFault => 6,
-            Status::Memory => 7,
-            Status::InputTooLong => 8,
-            Status::NotBuilt => 11,
-        }
-    }
-}
-
-// Why a run stops before it prints.
-#[derive(Clone, Copy, Drop)]
-enum Stop<'a> {
-    BadWords,
-    Unread(&'a str),
-    TooLong(&'a str),
-    NotBuilt,
-    Memory,
-}
-
-// The bytes of a file.
-fn load<'a, F: Files>(alloc: Global, name: &'a str, files: &mut F) -> Result<Bytes, Stop<'a>>
-    ensures ok { IfOk result (λ bytes. MayHold (F.told files.old name.now) bytes) }
-    ensures err { IfErr result (λ stop. Because stop ⊥ (λ n. (n ≡ name.now)
-        × (F.failed files.new ≡ Some (F.reads files.old))
-        × Rose (F.faults files.old) (F.faults files.new)) (λ n. (n ≡ name.now)
-        × IsTooLong (F.told files.old n)) ⊥) }
-    ensures counted { F.reads files.new ≡ next (F.reads files.old) }
-    ensures same { (other : List ℕ) → F.told files.new other ≡ F.told files.old other }
-    ensures later { F.faults files.old ≤ F.faults files.new }
-{
-    match files.read(alloc, name, FILE_LIMIT) {
-        Ok(bytes) => Ok(bytes),
-        Err(FileFault::Failed) => Err(Stop::Unread(name)),
-        Err(FileFault::TooLong { .. }) => Err(Stop::TooLong(name)),
-        Err(FileFault::Memory) => Err(Stop::Memory),
-    }
-}
-
-// What is printed of a session, and of the store's side of it.
-fn ending_of(closed: bool) -> &'static str
-    ensures { result.now ≡ (if closed then codes "closed" else codes "open") }
-{
-    if closed { "closed" } else { "open" }
-}
-
-fn store_ending_of(closed: bool) -> &'static str
-    ensures { result.now ≡ (if closed then codes "session-closed" else codes "open") }
-{
-    if closed { "session-closed" } else { "open" }
-}
-
-// The text of a run of at most one connection.
-fn printed(alloc: Global, opened: usize, run: &FirstRun) -> Result<String, Memory>
-    requires { opened ≤ 1 }
-    ensures { IfOk result (λ text. string_bytes text ≡ world_text run.now.order (replicate opened
-        (shown run.now.received run.now.handed run.now.closed))) }
-{
-    let mut text = String::new(alloc);
-    push_order(alloc, &mut text, run.order.as_slice())?;
-    if opened == 0 {
-        return Ok(text);
-    }
-    push_connection(
-        alloc,
-        &mut text,
-        1,
-        ending_of(run.closed),
-        store_ending_of(run.closed),
-        run.received.as_slice(),
-        run.handed.as_slice(),
-    )?;
-    Ok(text)
-}
-
-// The text that events print, or why there is none.
-fn text_of_events<'a>(alloc: Global, events: &[Event]) -> Result<String, Stop<'a>>
-    ensures ok { IfOk result (λ text. PrintsEvents events.now (string_bytes text)) }
-    ensures err { IfErr result (λ stop. Because stop ⊥ (λ _. ⊥) (λ _. ⊥) (IsBuilt events.now → ⊥)) }
-{
-    let Ok(said) = said_of(alloc, events) else {
-        return Err(Stop::Memory);
-    };
-    if said.opened > 1 {
-        return Err(Stop::NotBuilt);
-    }
-    let run = match first_run(alloc, said.sent.as_slice(), said.drained) {
-        Ok(run) => run,
-        Err(fault) => match fault {
-            NotFirst::NotBuilt => return Err(Stop::NotBuilt),
-            NotFirst::Memory => return Err(Stop::Memory),
-        },
-    };
-    match printed(alloc, said.opened, &run) {
-        Ok(text) => Ok(text),
-        Err(_) => Err(Stop::Memory),
-    }
-}
-
-// The text that a script prints, or why there is none.
-fn text_of<'a>(alloc: Global, script: &[u8]) -> Result<String, Stop<'a>>
-    ensures ok { IfOk result (λ text. (events : List Event) × IsScript script.now events
-        × PrintsEvents events (string_bytes text)) }
-    ensures err { IfErr result (λ stop. Because stop ⊥ (λ _. ⊥) (λ _. ⊥) (IsBuiltScript script.now → ⊥)) }
-{
-    match read_script(alloc, script) {
-        Ok(Some(events)) => text_of_events(alloc, events.as_slice()),
-        Ok(None) => Err(Stop::NotBuilt),
-        Err(_) => Err(Stop::Memory),
-    }
-}
-
-// The text that a replay prints, or why there is none.
-fn replay<'a, F: Files>(
-    alloc: Global,
-    key: &'a str,
-    script: &'a str,
-    files: &mut F,
-) -> Result<String, Stop<'a>>
-    ensures ok { IfOk result (λ text. IsReplayText (F.told files.old key.now)
-        (F.told files.old script.now) (string_bytes text)) }
-    ensures err { IfErr result (λ stop. Because stop ⊥ (λ name.
-        IsUnreadOf key.now script.now (F.reads files.old) (F.failed files.new) name
-        × Rose (F.faults files.old) (F.faults files.new)) (IsLongOf (F.told files.old) key.now
-        script.now) (CannotBuild (F.told files.old key.now) (F.told files.old script.now))) }
-    ensures later { F.faults files.old ≤ F.faults files.new }
-{
-    let key = match load(alloc, key, files) {
-        Ok(bytes) => bytes,
-        Err(stop) => return Err(stop),
-    };
-    if key.len() != KEY_LENGTH {
-        return Err(Stop::NotBuilt);
-    }
-    let script = match load(alloc, script, files) {
-        Ok(bytes) => bytes,
-        Err(stop) => return Err(stop),
-    };
-    text_of(alloc, script.as_slice())
-}
 
 // The text that is shown of a file, or why there is none.
 fn show<'a, F: Files>(alloc: Global, name: &'a str, files: &mut F) -> Result<String, Stop<'a>>
     ensures ok { IfOk result (λ text. IsShownText (F.told files.old name.now) (string_bytes text)) }
-    ensures err { IfErr result (λ stop. Because stop ⊥ (λ file. (file ≡ name.now)
+    ensures err { IfErr result (λ stop. BecauseOfFile stop (λ file. (file ≡ name.now)
         × (F.failed files.new ≡ Some (F.reads files.old))
         × Rose (F.faults files.old) (F.faults files.new)) (λ file. (file ≡ name.now)
-        × IsTooLong (F.told files.old file)) ⊥) }
+        × IsTooLong (F.told files.old file))) }
     ensures later { F.faults files.old ≤ F.faults files.new }
 {
     let bytes = match load(alloc, name, files) {
@@ -224,7 +47,8 @@ fn outcome<'a, F: Files>(
     ensures err { IfErr result (λ stop. Because stop (Fits words.now
         → ⊥) (λ name. IsUnread words.now (F.reads files.old) (F.failed files.new) name
         × Rose (F.faults files.old) (F.faults files.new))
-        (HasLong words.now (F.told files.old)) (IsNotBuilt words.now (F.told files.old))) }
+        (HasLong words.now (F.told files.old)) (HasBadKey words.now (F.told files.old))
+        (HasBadLine words.now (F.told files.old)) (IsNotBuilt words.now (F.told files.old))) }
     ensures later { F.faults files.old ≤ F.faults files.new }
     ensures unread { (ReadsFiles words.now → ⊥) → files.new ≡ files.old }
 {
@@ -232,34 +56,8 @@ fn outcome<'a, F: Files>(
         None => Err(Stop::BadWords),
         Some(Command::Unbuilt) => Err(Stop::NotBuilt),
         Some(Command::Replay { key, script }) => replay(alloc, key, script, files),
+        Some(Command::Hostile { key, script }) => hostile(alloc, key, script, files),
         Some(Command::Show { file }) => show(alloc, file, files),
-    }
-}
-
-// What is said of a stop, or that there is no memory to say it.
-fn complaint(alloc: Global, stop: Stop<'_>) -> Result<String, Memory>
-    ensures { IfOk result (λ text. string_bytes text ≡ complaint_of stop.entry) }
-{
-    let mut text = String::new(alloc);
-    match stop {
-        Stop::BadWords => push_line(&mut text, "bad words", "")?,
-        Stop::Unread(name) => push_line(&mut text, "cannot read ", name)?,
-        Stop::TooLong(name) => push_line(&mut text, name, " is longer than 268435456 bytes")?,
-        Stop::NotBuilt => push_line(&mut text, "not built", "")?,
-        Stop::Memory => push_line(&mut text, "no memory", "")?,
-    }
-    Ok(text)
-}
-
-fn status_of(stop: Stop<'_>) -> Status
-    ensures { result ≡ status_of stop.entry }
-{
-    match stop {
-        Stop::BadWords => Status::BadWords,
-        Stop::Unread(_) => Status::ReadFault,
-        Stop::TooLong(_) => Status::InputTooLong,
-        Stop::NotBuilt => Status::NotBuilt,
-        Stop::Memory => Status::Memory,
     }
 }
 
@@ -354,7 +152,7 @@ pub fn run<F: Files, K: Sink, E: Sink>(
     ensures bad_words { result ≡ Status.BadWords → Fits words.now → ⊥ }
     ensures no_row { (Fits words.now → ⊥) → (result ≡ Status.BadWords)
         ⊎ (result ≡ Status.WriteFault) ⊎ (result ≡ Status.Memory) }
-    // A file was not read, and is named: a replay's key is read first, and its script second.
+    // A file was not read, and is named: a key is read first, and its script second.
     ensures read_fault { result ≡ Status.ReadFault → ReadsFiles words.now
         × Rose (F.faults files.old) (F.faults files.new) }
     ensures unread_file { result ≡ Status.ReadFault → (name : List ℕ)
@@ -368,11 +166,27 @@ pub fn run<F: Files, K: Sink, E: Sink>(
     ensures long { StopsAtFile words.now (F.told files.old) → (result ≡ Status.InputTooLong)
         ⊎ (result ≡ Status.ReadFault) ⊎ (result ≡ Status.WriteFault)
         ⊎ (result ≡ Status.Memory) }
+    // The key has a length that no key file has, and it is told.
+    ensures key_malformed { result ≡ Status.KeyMalformed → (size : ℕ)
+        × HasBadKey words.now (F.told files.old) size
+        × Wrote (E.taken err.old) (E.taken err.new) (bad_key_line size) }
+    // A key that can only be malformed ends the run so, but for faults and want of memory.
+    ensures bad_key { StopsAtKey words.now (F.told files.old) → (result ≡ Status.KeyMalformed)
+        ⊎ (result ≡ Status.ReadFault) ⊎ (result ≡ Status.WriteFault)
+        ⊎ (result ≡ Status.Memory) }
+    // The script is outside its grammar, and its first line that fits no event where it stands is told.
+    ensures script_malformed { result ≡ Status.ScriptMalformed → (number : ℕ)
+        × HasBadLine words.now (F.told files.old) number
+        × Wrote (E.taken err.old) (E.taken err.new) (bad_script_line number) }
+    // A script that can only be outside its grammar ends the run so, but for the same.
+    ensures bad_script { StopsAtLine words.now (F.told files.old)
+        → (result ≡ Status.ScriptMalformed) ⊎ (result ≡ Status.ReadFault)
+        ⊎ (result ≡ Status.WriteFault) ⊎ (result ≡ Status.Memory) }
     // Another command, or a replay whose files are not of the form that is built.
     ensures not_built { result ≡ Status.NotBuilt → IsNotBuilt words.now (F.told files.old) }
     ensures unbuilt { IsUnbuilt words.now → (result ≡ Status.NotBuilt)
         ⊎ (result ≡ Status.WriteFault) ⊎ (result ≡ Status.Memory) }
-    // Only a replay and a show read files.
+    // Only a replay, a hostile and a show read files.
     ensures unread { (ReadsFiles words.now → ⊥) → files.new ≡ files.old }
     // What is printed.
     ensures done { result ≡ Status.Done → (text : List ℕ)
@@ -398,6 +212,8 @@ pub fn run<F: Files, K: Sink, E: Sink>(
     ensures complete { ReadsFiles words.now
         → (IsNotBuilt words.now (F.told files.old) → ⊥)
         → ((name : List ℕ) → HasLong words.now (F.told files.old) name → ⊥)
+        → ((size : ℕ) → HasBadKey words.now (F.told files.old) size → ⊥)
+        → ((number : ℕ) → HasBadLine words.now (F.told files.old) number → ⊥)
         → (Rose (F.faults files.old) (F.faults files.new) → ⊥)
         → (Rose (K.faults out.old) (K.faults out.new) → ⊥)
         → (Rose (E.faults err.old) (E.faults err.new) → ⊥)

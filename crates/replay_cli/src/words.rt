@@ -12,6 +12,8 @@ use crate::numbers::number_of;
 pub enum Command<'a> {
     /// Runs the script under the key file.
     Replay { key: &'a str, script: &'a str },
+    /// Runs one session under the key file, over the script's bytes of both sides.
+    Hostile { key: &'a str, script: &'a str },
     /// Shows the frames of a file.
     Show { file: &'a str },
     /// A command that is not built yet.
@@ -61,11 +63,15 @@ pub fn command_of(words: &[String]) -> Option<Command<'_>>
         let (key, script) = (word(words, 1), word(words, 2));
         return Some(Command::Replay { key, script });
     }
+    if is_called(words, 3, "hostile") {
+        let (key, script) = (word(words, 1), word(words, 2));
+        return Some(Command::Hostile { key, script });
+    }
     if is_called(words, 2, "show") {
         let file = word(words, 1);
         return Some(Command::Show { file });
     }
-    if is_called(words, 3, "hostile") || is_stress(words) {
+    if is_stress(words) {
         return Some(Command::Unbuilt);
     }
     None

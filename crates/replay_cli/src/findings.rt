@@ -1,0 +1,134 @@
+//! How endings and findings are printed.
+
+ghost use Rattle.std.specs.Prelude.{◌≡◌, ◌++◌, OnOk, string_bytes};
+ghost use Rattle.replay_cli.specs.Endings.{event_flaw_text, ending_text, session_text, flaw_text, cause_text, finding_text, findings_text};
+
+use crate::printed::{end_line, push_count, push_field, push_int, push_refusal};
+use entry_session::Ending;
+use jute_core::Memory;
+use payload_seal::Flaw;
+use reply_rewrite::{Cause, Finding};
+use std::alloc::Global;
+use watch_rewrite::EventFlaw;
+
+fn push_event_flaw(alloc: Global, into: &mut String, flaw: EventFlaw) -> Result<(), Memory>
+    ensures { OnOk result
+        (string_bytes into.new ≡ string_bytes into.old ++ event_flaw_text flaw) }
+{
+    match flaw {
+        EventFlaw::Kind { kind } => push_int(alloc, into, "bad-event kind ", kind)?,
+        EventFlaw::State { state } => push_int(alloc, into, "bad-event state ", state)?,
+        EventFlaw::Path => push_field(into, "bad-event path", "")?,
+    }
+    Ok(())
+}
+
+// Appends why a session ended.
+fn push_ending(alloc: Global, into: &mut String, ending: Ending) -> Result<(), Memory>
+    ensures { OnOk result (string_bytes into.new ≡ string_bytes into.old ++ ending_text ending) }
+{
+    match ending {
+        Ending::Closed => push_field(into, "closed", "")?,
+        Ending::ClientMalformed(refusal) => {
+            push_refusal(alloc, into, "client-malformed ", refusal)?
+        }
+        Ending::ClientTooLong { length } => push_int(alloc, into, "client-too-long ", length)?,
+        Ending::StoreMalformed(refusal) => push_refusal(alloc, into, "store-malformed ", refusal)?,
+        Ending::StoreTooLong { length } => push_int(alloc, into, "store-too-long ", length)?,
+        Ending::WrongXid { expected, got } => {
+            push_int(alloc, into, "wrong-xid expected ", expected)?;
+            push_int(alloc, into, " got ", got)?;
+        }
+        Ending::NothingOpen { xid } => push_int(alloc, into, "nothing-open ", xid)?,
+        Ending::BadEvent(flaw) => push_event_flaw(alloc, into, flaw)?,
+        Ending::QueueFull { weight } => push_count(alloc, into, "queue-full ", weight)?,
+        Ending::IvSpent => push_field(into, "iv-spent", "")?,
+        Ending::ClientEnd => push_field(into, "client-end", "")?,
+        Ending::StoreEnd => push_field(into, "store-end", "")?,
+        Ending::ClientFault => push_field(into, "client-fault", "")?,
+        Ending::StoreFault => push_field(into, "store-fault", "")?,
+        Ending::Turns => push_field(into, "turns", "")?,
+        Ending::Memory => push_field(into, "memory", "")?,
+    }
+    Ok(())
+}
+
+/// Appends why a session ended, if it has.
+pub fn push_session(alloc: Global, into: &mut String, ending: Option<Ending>) -> Result<(), Memory>
+    ensures { OnOk result (string_bytes into.new ≡ string_bytes into.old ++ session_text ending) }
+{
+    match ending {
+        Some(ending) => push_ending(alloc, into, ending)?,
+        None => push_field(into, "open", "")?,
+    }
+    Ok(())
+}
+
+fn push_flaw(alloc: Global, into: &mut String, flaw: Flaw) -> Result<(), Memory>
+    ensures { OnOk result (string_bytes into.new ≡ string_bytes into.old ++ flaw_text flaw) }
+{
+    match flaw {
+        Flaw::Short { length } => push_count(alloc, into, "payload short ", length as u64)?,
+        Flaw::UnknownEpoch { epoch } => {
+            push_count(alloc, into, "payload unknown-epoch ", epoch as u64)?
+        }
+        Flaw::BadTag => push_field(into, "payload bad-tag", "")?,
+        Flaw::BadFlag { flag } => push_count(alloc, into, "payload bad-flag ", flag as u64)?,
+        Flaw::WrongPath { sealed, asked } => {
+            let sealed = hex::encode(alloc, sealed.as_slice())?;
+            let asked = hex::encode(alloc, asked.as_slice())?;
+            push_field(into, "payload wrong-path ", sealed.as_str())?;
+            push_field(into, " ", asked.as_str())?;
+        }
+    }
+    Ok(())
+}
+
+// Appends what was wrong with a reply.
+fn push_cause(alloc: Global, into: &mut String, cause: Cause) -> Result<(), Memory>
+    ensures { OnOk result (string_bytes into.new ≡ string_bytes into.old ++ cause_text cause) }
+{
+    match cause {
+        Cause::Payload(flaw) => push_flaw(alloc, into, flaw)?,
+        Cause::Length { stored } => push_int(alloc, into, "length ", stored)?,
+        Cause::NullChildren => push_field(into, "null-children", "")?,
+        Cause::Child { index } => push_count(alloc, into, "child ", index as u64)?,
+        Cause::Doubled { index } => push_count(alloc, into, "doubled ", index as u64)?,
+        Cause::Created => push_field(into, "created", "")?,
+        Cause::SyncPath => push_field(into, "sync-path", "")?,
+        Cause::Acl => push_field(into, "acl", "")?,
+        Cause::MultiCount { asked, got } => {
+            push_count(alloc, into, "multi-count ", asked as u64)?;
+            push_count(alloc, into, " ", got as u64)?;
+        }
+        Cause::MultiKind { index } => push_count(alloc, into, "multi-kind ", index as u64)?,
+        Cause::MultiCreated { index } => push_count(alloc, into, "multi-created ", index as u64)?,
+        Cause::MultiLength { index } => push_count(alloc, into, "multi-length ", index as u64)?,
+    }
+    Ok(())
+}
+
+// Appends the line of a finding.
+fn push_finding(alloc: Global, into: &mut String, finding: &Finding) -> Result<(), Memory>
+    ensures { OnOk result
+        (string_bytes into.new ≡ string_bytes into.old ++ finding_text finding.now) }
+{
+    push_count(alloc, into, "finding ", finding.connection as u64)?;
+    push_count(alloc, into, " reply ", finding.reply)?;
+    push_int(alloc, into, " xid ", finding.xid)?;
+    push_field(into, " ", "")?;
+    push_cause(alloc, into, finding.cause)?;
+    end_line(into)?;
+    Ok(())
+}
+
+/// Appends a line for each finding.
+pub fn push_findings(alloc: Global, into: &mut String, findings: &[Finding]) -> Result<(), Memory>
+    ensures { OnOk result
+        (string_bytes into.new ≡ string_bytes into.old ++ findings_text findings.now) }
+{
+    for finding in findings {
+        push_finding(alloc, into, finding)?;
+    }
+    Ok(())
+}
