@@ -21,12 +21,12 @@ pub mod Owned
 pub mod Changed
 pub mod Alone
 mod RoomLeft
-mod SessionLists
-mod SessionMaps
-mod SessionTies
+pub mod SessionLists
+pub mod SessionMaps
+pub mod SessionTies
 mod SessionsEnded
 mod SessionsGiven
-mod SessionsKept
+pub mod SessionsKept
 mod SessionsMoved
 mod SessionsOwning
 pub mod BelowRoot

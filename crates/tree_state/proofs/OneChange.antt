@@ -1,5 +1,5 @@
 -- One operation of a multi is the change that it asks for.
-use Rattle.std.proofs.Common.{◌≡◌, ℕ, ℤ, Bool, true, false, List, ◌∷◌, Option, None, Result, Vec, refl, sym, ap, subst, ◌∙◌}
+use Rattle.std.proofs.Common.{◌≡◌, ℕ, ℤ, Bool, true, false, List, ◌∷◌, Option, None, Result, Vec, sym, ap, subst, ◌∙◌}
 use Rattle.std.specs.Global.{Global}
 use Rattle.zk_path.specs.Paths.{IsTextOf}
 use Rattle.zk_records.specs.declared.create.CreateRequest.{CreateRequest}

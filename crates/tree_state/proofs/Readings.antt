@@ -20,7 +20,7 @@ use Rattle.tree_state.specs.State.{State, Aspect, on_data, on_children, watching
 use Rattle.tree_state.specs.Commands.{stat_at, get_content, get_acl, get_children}
 use Rattle.tree_state.specs.Changes.{Naming, no_node}
 use Rattle.tree_state.specs.Step.{Answer, answer, with_error, told_only, with_watch, names_with}
-use Rattle.tree_state.specs.Places.{node_of, kept_stat, IsSmall, IsNodeAt, IsFound, Holds}
+use Rattle.tree_state.specs.Places.{node_of, kept_stat, IsSmall, IsNodeAt, IsFound, Holds, counted_length}
 use Rattle.tree_state.specs.Trees.{Means, Quietly, Tells}
 use Rattle.tree_state.specs.Watches.{Watching}
 use Rattle.tree_state.proofs.Owned.{given_so}
@@ -200,3 +200,12 @@ pub names_at_is : (es : List Place) (p : Path) (n : code.Node) (names : List (Li
 names_at_is es p n names f e =
     let h = present es p n f in
     ap Some (e ∙ h.names) ∙ ap (option_map (λ (node : Node). child_names p es)) (sym h.plain)
+
+pub no_length_at : (es : List Place) (p : Path) → IsFound es p None → None ≡ option_map (λ (node : Node). counted_length (child_names p es)) (find es p)
+no_length_at es p f = ap (option_map (λ (node : Node). counted_length (child_names p es))) (sym (absent es p f))
+
+pub length_at_is : (es : List Place) (p : Path) (n : code.Node) (size : ℕ) → IsFound es p (Some n) → size ≡ counted_length (map string_bytes n.names.keys)
+    → Some size ≡ option_map (λ (node : Node). counted_length (child_names p es)) (find es p)
+length_at_is es p n size f e =
+    let h = present es p n f in
+    ap Some (e ∙ ap counted_length h.names) ∙ ap (option_map (λ (node : Node). counted_length (child_names p es))) (sym h.plain)

@@ -2,12 +2,13 @@
 use Rattle.std.proofs.Common.{◌≡◌, ℕ, ℤ, List, map, Option, Some, None, All, int_cmp, nat_cmp, refl, sym, ap, ◌∙◌, subst, inl, inr}
 use Rattle.std.specs.BTreeMap.{IsOrdered, IsUnchanged, Updates, WritesThrough, get}
 use Rattle.std.specs.Map.{lookup, remove_entry}
+use Rattle.std.specs.Option.{option_map}
 use Rattle.std.proofs.lemmas.Bool.{cases_Bool}
 use Rattle.tree_state.specs.declared.session.Session as code
 use Rattle.tree_state.specs.declared.session.Sessions.{Sessions}
 use Rattle.tree_state.specs.State.{Session, has_connection, session_of, session_at, is_numbered, changed_session, change_session, without_session, without_connection}
 use Rattle.tree_state.specs.Step.{connection_at}
-use Rattle.tree_state.specs.Sessions.{Keeps, Owning, OwnsPaths, OwnTexts, session_at_key}
+use Rattle.tree_state.specs.Sessions.{Keeps, Owning, OwnsPaths, OwnTexts, live_of, session_at_key}
 use Rattle.tree_state.proofs.SessionLists.{AreDistinct, AreTied, has_its, is_on, all_live, same_all, nothing_lost, nothing_gone}
 use Rattle.tree_state.proofs.SessionMaps.{is_key, sessions_of, sorted_distinct, written, removed, distinct_before, owns_found, owns_removed, owns_written}
 use Rattle.tree_state.proofs.SessionTies.{is_connection, same_connection, other_session, lost_ties, ended_ties, changed_yes, changed_no, stays, loses}
@@ -153,3 +154,16 @@ pub no_connection : (t : Sessions) (j k : ℤ) (xs : List Session) (owned : Owni
 unfolding connection_at
 no_connection t j k xs owned same h keeps =
     sym (ap connection_at (not_kept t xs owned j keeps (sym h))) ∙ ap (λ (z : ℤ). connection_at (session_at z xs)) same
+
+pub live_so : (t : Sessions) (j k : ℤ) (v : code.Session) (timeout heard : ℤ) (xs : List Session) (owned : Owning) → j ≡ k → timeout ≡ v.timeout → heard ≡ v.heard → Some v ≡ get int_cmp t.live j → Keeps t xs owned
+    → Some (record { timeout = timeout; heard = heard; connection = v.connection }) ≡ option_map live_of (session_at k xs)
+unfolding session_at_key live_of
+live_so t j k v timeout heard xs owned same e f h keeps =
+    let shown : Some (record { timeout = timeout; heard = heard; connection = v.connection }) ≡ option_map live_of (session_at j xs) =
+    rw (e, f) (sym (ap (option_map live_of) (kept_at t xs owned j v keeps (sym h)))) in
+    shown ∙ ap (λ (z : ℤ). option_map live_of (session_at z xs)) same
+
+pub not_live : (t : Sessions) (j k : ℤ) (xs : List Session) (owned : Owning) → j ≡ k → None ≡ get int_cmp t.live j → Keeps t xs owned
+    → None ≡ option_map live_of (session_at k xs)
+not_live t j k xs owned same h keeps =
+    sym (ap (option_map live_of) (not_kept t xs owned j keeps (sym h))) ∙ ap (λ (z : ℤ). option_map live_of (session_at z xs)) same

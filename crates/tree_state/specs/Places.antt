@@ -1,5 +1,5 @@
 -- Which nodes an ordered map of path texts holds.
-use Rattle.std.specs.Prelude.{◌≡◌, ℕ, pos, ◌+◌, ◌≤◌, List, [], ◌∷◌, length, map, min, true, false, Option, Some, None, All, String, codes, if◌then◌else◌}
+use Rattle.std.specs.Prelude.{◌≡◌, ℕ, pos, ◌+◌, ◌-◌, ◌^◌, ◌≤◌, List, [], ◌∷◌, length, map, min, true, false, Option, Some, None, All, String, codes, if◌then◌else◌}
 use Rattle.std.specs.Global.{Global}
 use Rattle.std.specs.Str.{bytes_eq}
 use Rattle.std.specs.String.{string_bytes}
@@ -111,3 +111,12 @@ kept_stat n = record {
   children = pos (length n.names.keys);
   pzxid = n.numbers.pzxid;
 }
+
+-- how many bytes these names take in a list, each with the four bytes of its length
+abbrev pub names_length : List (List ℕ) → ℕ
+names_length [] = 0
+names_length (name ∷ names) = (4 + length name) + names_length names
+
+-- and as it is counted, up to the last number of 64 bits
+unfoldable pub counted_length : List (List ℕ) → ℕ
+counted_length names = min (names_length names) (2 ^ 64 - 1)

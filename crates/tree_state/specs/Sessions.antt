@@ -9,6 +9,7 @@ use Rattle.std.specs.String.{string_bytes}
 use Rattle.zk_path.specs.Paths.{IsTextOf}
 use Rattle.tree_state.specs.declared.session.Session as code
 use Rattle.tree_state.specs.declared.session.Sessions.{Sessions}
+use Rattle.tree_state.specs.declared.session.LiveSession.{LiveSession}
 use Rattle.tree_state.specs.Nodes.{Path, same_path}
 use Rattle.tree_state.specs.State.{Session, session_of, session_at}
 
@@ -28,6 +29,10 @@ session_at_key e = record {
 -- each text is that of its path, which is legal
 unfoldable pub OwnTexts : List (String Global) → List Path → Type 0
 OwnTexts texts ps = AllZip IsTextOf (map string_bytes texts) ps
+
+-- what is shown of a session
+unfoldable pub live_of : Session → LiveSession
+live_of x = record { timeout = x.timeout; heard = x.heard; connection = x.connection }
 
 abbrev pub OwnsPaths : Owning → ℤ × code.Session → Type 0
 OwnsPaths owned e = OwnTexts e.1.ephemerals.items (owned e.0)

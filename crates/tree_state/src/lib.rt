@@ -37,6 +37,7 @@ mod watchers;
 mod watches;
 
 pub use message::{Message, Output, Outputs};
+pub use session::{Given, LiveSession};
 pub use tree::Tree;
 
 /// The law that a request, which is refused or is not, is exactly one command: of each request there is a step to speak of.

@@ -4,7 +4,7 @@ ghost use Rattle.std.specs.Prelude.{◌≡◌, ◌<◌, pos, min, map, IfOk};
 ghost use Rattle.std.specs.String.{string_bytes};
 ghost use Rattle.tree_state.specs.Nodes.{greatest_int};
 ghost use Rattle.tree_state.specs.Changes.{fresh_numbers, with_content, with_acl};
-ghost use Rattle.tree_state.specs.Places.{node_of, IsSmall, IsRoot, kept_stat};
+ghost use Rattle.tree_state.specs.Places.{node_of, IsSmall, IsRoot, kept_stat, counted_length};
 
 use jute_core::{Bytes, Memory, Text, Texts};
 use std::alloc::Global;
@@ -134,6 +134,19 @@ impl Node {
             names.push(Text::copy_of(alloc, name)?)?;
         }
         Ok(Texts::of(names))
+    }
+
+    /// How many bytes these names take in a reply, up to the last `u64`. The cost is linear in their number.
+    pub(crate) fn names_length(&self) -> u64
+        ensures { result ≡ counted_length (map string_bytes self.now.names.keys) }
+    {
+        let mut length: u64 = 0;
+        for name in &self.names {
+            length = length
+                .saturating_add(4)
+                .saturating_add(name.as_str().len() as u64);
+        }
+        length
     }
 }
 

@@ -2,13 +2,14 @@
 
 ghost use Rattle.std.specs.Prelude.{◌≡◌, ◌<ℤ◌, ℕ, ℤ, pos, List, [], ◌∷◌, ◌++◌, Bool, true, false, Some, None, is_some, map, filter, IfOk, IfErr, IfSome, IsSome, OnOk, OnErr};
 ghost use Rattle.std.specs.BTreeMap.{Updates, get};
+ghost use Rattle.std.specs.Option.{option_map};
 ghost use Rattle.std.specs.Ordering.{nat_cmp};
 ghost use Rattle.std.specs.String.{string_bytes};
 ghost use Rattle.zk_path.specs.Paths.{text_of, IsTextOf};
 ghost use Rattle.tree_state.specs.Nodes.{Path};
 ghost use Rattle.tree_state.specs.State.{Session as PlainSession, session_of, session_at, change_session, heard_at, without_session, without_connection};
 ghost use Rattle.tree_state.specs.Step.{connection_at, given_to, is_password_of, no_session as nothing_given, with_session, with_moved};
-ghost use Rattle.tree_state.specs.Sessions.{Keeps, AreBelow, IsLiveOn, Owning, session_at_key, with_owned, without_owned, is_other_text, OwnTexts, HasRoomFor, IsCopy};
+ghost use Rattle.tree_state.specs.Sessions.{Keeps, AreBelow, IsLiveOn, Owning, live_of, session_at_key, with_owned, without_owned, is_other_text, OwnTexts, HasRoomFor, IsCopy};
 
 use jute_core::Memory;
 use std::alloc::Global;
@@ -21,6 +22,15 @@ pub struct Given {
     pub session: i64,
     pub timeout: i32,
     pub password: [u8; 16],
+}
+
+/// What a live session shows: its timeout in milliseconds, the time in milliseconds at which it was last heard, and its connection, if
+/// it has one.
+#[derive(Clone, Copy, Debug, Drop)]
+pub struct LiveSession {
+    pub timeout: i32,
+    pub heard: i64,
+    pub connection: Option<u32>,
 }
 
 /// A live session: its timeout in milliseconds, its password, the time at which it was last heard, its connection, and the
@@ -239,6 +249,20 @@ impl Sessions {
     {
         match self.live.get(&session) {
             Some(live) => live.connection,
+            None => None,
+        }
+    }
+
+    /// The live session with this number. Takes no memory.
+    pub(crate) fn session(&self, session: i64) -> Option<LiveSession>
+        ensures { (xs : List PlainSession) (owned : Owning) → Keeps self.now xs owned → result ≡ option_map live_of (session_at session xs) }
+    {
+        match self.live.get(&session) {
+            Some(live) => Some(LiveSession {
+                timeout: live.timeout,
+                heard: live.heard,
+                connection: live.connection,
+            }),
             None => None,
         }
     }

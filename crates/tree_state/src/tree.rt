@@ -7,6 +7,8 @@ ghost use Rattle.zk_path.specs.Paths.{IsTextOf};
 ghost use Rattle.zk_messages.specs.Refuses.{RefusesOp};
 ghost use Rattle.tree_state.specs.Commands.{Change, Command, IsChange, IsCommand, multi};
 ghost use Rattle.tree_state.specs.Nodes.{Path, find, child_names, stat_of};
+ghost use Rattle.tree_state.specs.Places.{counted_length};
+ghost use Rattle.tree_state.specs.Sessions.{live_of};
 ghost use Rattle.tree_state.specs.State.{State, Session as PlainSession, start_at, session_of, session_at};
 ghost use Rattle.tree_state.specs.Changes.{Naming};
 ghost use Rattle.tree_state.specs.Step.{connects, asks, loses, expires, given_to, answer};
@@ -18,6 +20,7 @@ use crate::held::{Held, alone};
 use crate::message::{Message, Output, Outputs};
 use crate::multi::{Stop, failed_results};
 use crate::node::Moment;
+use crate::session::{Given, LiveSession};
 use jute_core::{Memory, Texts};
 use std::alloc::Global;
 use zk_messages::{Ops, Outcome, Reply, Request, Results, refusal_of};
@@ -216,7 +219,8 @@ impl<N: Numberer + Drop> Tree<N> {
 
     /// The last zxid. Takes no memory.
     pub fn last(&self) -> i64
-        ensures { (s : State) → Means self.now.held s → result ≡ s.last }
+        ensures last { (s : State) → Means self.now.held s → result ≡ s.last }
+        ensures held { result ≡ self.now.held.last }
     {
         self.held.last
     }
@@ -228,12 +232,37 @@ impl<N: Numberer + Drop> Tree<N> {
         self.held.sessions.session_of(connection)
     }
 
+    /// What a connect request is given, where `fresh` and its password are those of the next session. Takes no memory.
+    pub fn given(&self, asked: &ConnectRequest, fresh: i64, password: [u8; 16]) -> Given
+        ensures { (s : State) → Means self.now.held s → result ≡ given_to s.sessions asked.now fresh password }
+    {
+        self.held.sessions.given(asked, fresh, password)
+    }
+
+    /// The live session with this number, or `None` where it is not live. Takes no memory.
+    pub fn session(&self, session: i64) -> Option<LiveSession>
+        ensures { (s : State) → Means self.now.held s → result ≡ option_map live_of (session_at session s.sessions) }
+    {
+        self.held.sessions.session(session)
+    }
+
     /// The Stat of the node at a path, or `None` where there is none. Takes no memory.
     pub fn stat(&self, path: &str) -> Option<Stat>
         ensures { (s : State) (p : Path) → Means self.now.held s → IsTextOf path.now p → result ≡ option_map (stat_of s.nodes p) (find s.nodes p) }
     {
         match self.held.places.find(path) {
             Some(node) => Some(node.stat()),
+            None => None,
+        }
+    }
+
+    /// How many bytes the names of the children of the node at a path take in a reply, each with the four bytes of its length, up
+    /// to the last `u64`; `None` where there is no node. The cost is linear in the number of these names. Takes no memory.
+    pub fn names_length(&self, path: &str) -> Option<u64>
+        ensures { (s : State) (p : Path) → Means self.now.held s → IsTextOf path.now p → result ≡ option_map (λ node. counted_length (child_names p s.nodes)) (find s.nodes p) }
+    {
+        match self.held.places.find(path) {
+            Some(node) => Some(node.names_length()),
             None => None,
         }
     }

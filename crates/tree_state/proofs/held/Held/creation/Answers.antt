@@ -1,4 +1,4 @@
-use Rattle.std.proofs.Common.{◌≡◌, List, ℕ, sym, subst}
+use Rattle.std.proofs.Common.{List, ℕ, sym, subst}
 use Rattle.zk_path.specs.Paths.{IsTextOf}
 use Rattle.tree_state.proofs.Changed.{tells_path, tells_stat}
 use Rattle.tree_state.proofs.held.Held.creation.Goals as goal
