@@ -1,7 +1,7 @@
 -- Printed texts that are joined.
 use Rattle.std.proofs.Common.{◌≡◌, ℕ, List, [], ◌∷◌, ◌++◌, sym, ap, ◌∙◌, append_assoc}
 use Rattle.std.proofs.lemmas.List.{append-nil}
-use Rattle.tree_server.specs.declared.entry.Entry.{Entry}
+use Rattle.store_side.specs.declared.entry.Entry.{Entry}
 use Rattle.replay_cli.specs.Printed.{entry_text, entries_text, Shown, shown_text, connection_text}
 
 pub entries_more : (entries : List Entry) (entry : Entry) → entries_text (entries ++ entry ∷ []) ≡ entries_text entries ++ entry_text entry

@@ -12,7 +12,7 @@ use Rattle.replay_cli.specs.HostileScript.{IsHostileScript, IsFirstBadHostileLin
 use Rattle.replay_cli.specs.Hostile.{IsKeysOf, PrintsHostile}
 use Rattle.replay_cli.specs.declared.hostile_script.HostileEvent.{HostileEvent}
 use Rattle.replay_cli.specs.declared.script.Event.{Event}
-use Rattle.tree_server.specs.declared.entry.Entry.{Entry}
+use Rattle.store_side.specs.declared.entry.Entry.{Entry}
 use Rattle.world_core.specs.FirstForm.{IsFirstForm}
 use Rattle.world_core.specs.Headline.{Headline}
 

@@ -7,7 +7,7 @@ ghost use Rattle.replay_cli.specs.Reasons.{reason_name, refusal_text};
 
 use jute_core::{Memory, Reason, Refusal};
 use std::alloc::{AllocError, Global};
-use tree_server::Entry;
+use store_side::Entry;
 
 /// Bytes in hex, or a dash where there are none.
 pub fn bytes_text(alloc: Global, bytes: &[u8]) -> Result<String, AllocError>

@@ -9,9 +9,9 @@ use Rattle.tree_state.specs.declared.message.Output.{Output}
 use Rattle.tree_state.specs.State.{start}
 use Rattle.jute_core.specs.Frames.{FitsFrame}
 use Rattle.tree_state.specs.Plain.{plain}
-use Rattle.tree_server.specs.Messages.{SpellsMessage, Messages}
-use Rattle.tree_server.specs.Orders.{FitsAnswer, FitsOutput}
-use Rattle.tree_server.specs.Out.{to_connection, outputs, out}
+use Rattle.store_side.specs.Messages.{SpellsMessage, Messages}
+use Rattle.store_side.specs.Orders.{FitsAnswer, FitsOutput}
+use Rattle.store_side.specs.Out.{to_connection, outputs, out}
 use Rattle.sealed_machine.specs.Laws.{FitsPlain}
 use Rattle.sealed_machine.specs.Runs.{all_asked}
 use Rattle.sealed_machine.proofs.ShorterReplies.{fits_plain}

@@ -23,7 +23,7 @@ use Rattle.tree_state.proofs.ByteOrder.{placed_before, placed_after, placed_alon
 use Rattle.tree_state.proofs.Reorder.{length-Shuffles, Shuffles-sym}
 use Rattle.tree_state.proofs.NameSets.{has_name}
 use Rattle.tree_state.proofs.ChildNames.{has_child_name}
-use Rattle.tree_server.proofs.Zipping.{Zips, length_zips}
+use Rattle.store_side.proofs.Zipping.{Zips, length_zips}
 use Rattle.sealed_machine.proofs.SealedNames.{one_name}
 use Rattle.sealed_machine.proofs.SealedStates.{SealsName}
 

@@ -18,13 +18,14 @@ use Rattle.tree_state.specs.Plain.{plain}
 use Rattle.tree_state.specs.Commands.{Command}
 use Rattle.tree_state.specs.Changes.{Naming}
 use Rattle.tree_state.specs.Step.{Answer, Act, connects, asks as asking, loses, expires, Next, replied, taken, answer_connect, expired, step}
-use Rattle.tree_server.specs.Out.{outputs, to_connection, out}
-unfoldable pub use Rattle.tree_server.specs.Follows.{ShowsMessage}
+use Rattle.store_side.specs.Out.{outputs, to_connection, out}
+unfoldable pub use Rattle.store_side.specs.Follows.{ShowsMessage}
 unfoldable pub use Rattle.sealed_machine.specs.Runs.{asked_if, asked_with, asked_in, all_asked}
 pub use Rattle.sealed_machine.specs.Runs.{Question}
 pub use Rattle.sealed_machine.specs.Runs.{Matches, nothing, seen_event, seen_reply, seen_session, Talks, silent, told_event, told_reply, told_session}
-pub use Rattle.tree_server.specs.Follows.{Shown}
-use Rattle.tree_server.proofs.Zipping.{Zips}
+pub use Rattle.store_side.specs.Follows.{Shown}
+use Rattle.store_side.proofs.Appended.{to_connection-append}
+use Rattle.store_side.proofs.Zipping.{Zips}
 use Rattle.sealed_machine.proofs.SealedStates.{IsSealedState}
 use Rattle.tree_state.specs.Nodes.{ephemerals}
 use Rattle.tree_state.specs.State.{next_zxid}
@@ -40,17 +41,6 @@ Matches-append k a b ms ns us vs nothing j = j
 Matches-append k a b ms ns us vs (seen_event e f a' ms' ns' s h) j = seen_event e f _ _ _ s (Matches-append k a' b ms' ns' us vs h j)
 Matches-append k a b ms ns us vs (seen_reply c r f a' ms' ns' x s h) j = seen_reply c r f _ _ _ x s (Matches-append k a' b ms' ns' us vs h j)
 Matches-append k a b ms ns us vs (seen_session r a' ms' ns' h) j = seen_session r _ _ _ (Matches-append k a' b ms' ns' us vs h j)
-
--- what goes to a connection, of two lists of outputs
-pub to_connection-append : (c : ℕ) (os us : List Output) → to_connection c (os ++ us) ≡ to_connection c os ++ to_connection c us
-unfolding to_connection
-to_connection-append c [] us = refl
-to_connection-append c (o ∷ os) us = go (o.connection == c) (to_connection-append c os us)
-  where
-    go : (b : Bool) → to_connection c (os ++ us) ≡ to_connection c os ++ to_connection c us
-        → cond b (o.message ∷ to_connection c (os ++ us)) (to_connection c (os ++ us)) ≡ cond b (o.message ∷ to_connection c os) (to_connection c os) ++ to_connection c us
-    go true h = ap (λ (l : List Message). o.message ∷ l) h
-    go false h = h
 
 module _ (k : EntryKeys) (w : AreKeys k.names) where
   event_first : (b c : Bool) (m n : Message) (ms ns : List Message) → b ≡ c → OpensEvent k.names m n → Matches k [] ms ns → Matches k [] (cond b (m ∷ ms) ms) (cond c (n ∷ ns) ns)

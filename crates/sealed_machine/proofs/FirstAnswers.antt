@@ -15,14 +15,14 @@ use Rattle.tree_state.specs.Commands.{Command}
 use Rattle.zk_messages.specs.declared.reply.Reply.{Reply}
 use Rattle.tree_state.specs.State.{next_zxid}
 use Rattle.tree_state.specs.Step.{Act, connects, asks as asking, loses, expires, taken, replied, answer_connect, expired, step}
-use Rattle.tree_server.specs.Out.{to_connection}
+use Rattle.store_side.specs.Out.{to_connection}
 use Rattle.sealed_machine.specs.Runs.{HasNoConnected}
-use Rattle.tree_server.proofs.Zipping.{Zips}
+use Rattle.store_side.proofs.Zipping.{Zips}
 use Rattle.sealed_machine.proofs.SealedStates.{IsSealedState, ephemerals_zip}
 use Rattle.sealed_machine.proofs.SealedMultis.{all_deleted_sealed}
 use Rattle.sealed_machine.proofs.SealedSteps.{VeilsAct, answered}
-use Rattle.sealed_machine.proofs.Connections.{to_connection-append}
-use Rattle.sealed_machine.proofs.NoTrace.{first_none, nothing_to}
+use Rattle.store_side.proofs.Appended.{to_connection-append}
+use Rattle.store_side.proofs.NoTrace.{first_none, nothing_to}
 use Rattle.sealed_machine.proofs.SealedChanges.{OpensEvent, OpensOutput}
 use Rattle.sealed_machine.proofs.SealedAnswers.{VeilsCommand}
 

@@ -18,7 +18,5 @@ pub mod ShorterNames
 pub mod ShorterReplies
 pub mod RefusalCodes
 pub mod AnswersFit
-pub mod QuietChanges
-pub mod NoTrace
 pub mod FirstAnswers
 pub mod EachLaw

@@ -28,7 +28,7 @@ use Rattle.tree_state.specs.Step.{outcome_of, names_with}
 use Rattle.tree_state.proofs.ByteOrder.{Shuffles-in_order}
 use Rattle.tree_state.proofs.Reorder.{joined}
 unfoldable pub use Rattle.sealed_machine.specs.Veils.{IsBelow, VeilsCommand, change_asked, asked_of}
-unfoldable pub use Rattle.tree_server.specs.Follows.{Shows}
+unfoldable pub use Rattle.store_side.specs.Follows.{Shows}
 pub use Rattle.sealed_machine.specs.Opens.{IsOpenedTo, Opens}
 use Rattle.sealed_machine.proofs.ChildLists.{plain_names, singles}
 use Rattle.sealed_machine.proofs.SealedStates.{Seals, SealedNode, IsSealedState, children_zips, stats}

@@ -13,10 +13,10 @@ use Rattle.tree_state.specs.State.{State, session_of}
 use Rattle.tree_state.specs.Commands.{Change, create, delete, set_content, check, Command, refused, single, multi, set_acl, stat_at, get_content, get_acl, get_children, sync, ping, set_watches, close, Asks, IsCommand}
 use Rattle.tree_state.specs.Plain.{plain}
 use Rattle.tree_state.specs.Step.{Act, step}
-use Rattle.tree_server.specs.Acts.{IsAct}
-use Rattle.tree_server.specs.Zips.{Zips}
-use Rattle.tree_server.specs.declared.entry.Entry.{Entry}
-use Rattle.tree_server.specs.declared.entry.Entry.TheVariants.{Connect, Take, Lost, Expire}
+use Rattle.store_side.specs.Acts.{IsAct}
+use Rattle.store_side.specs.Zips.{Zips}
+use Rattle.store_side.specs.declared.entry.Entry.{Entry}
+use Rattle.store_side.specs.declared.entry.Entry.TheVariants.{Connect, Take, Lost, Expire}
 use Rattle.sealed_machine.specs.Veils.{change_asked, asked_of}
 use Rattle.sealed_machine.specs.Runs.{Question, IsAnswerable, AreAnswerable, asked_if, asked_with, asked_in, all_asked}
 

@@ -20,9 +20,9 @@ use Rattle.tree_state.specs.Changes.{Trial, failed, done, need, Naming, Effect, 
 use Rattle.tree_state.specs.Step.{Answer, with_error, told_only, or_error, answer_single, answer_multi, with_watch, closed, answer}
 use Rattle.tree_state.proofs.Found.{apart_changed}
 unfoldable pub use Rattle.sealed_machine.specs.Veils.{IsBelow, VeilsCommand, change_asked, asked_of}
-unfoldable pub use Rattle.tree_server.specs.Follows.{Shows}
+unfoldable pub use Rattle.store_side.specs.Follows.{Shows}
 pub use Rattle.sealed_machine.specs.Opens.{Opens, SealedAnswer}
-use Rattle.tree_server.proofs.Zipping.{Zips, zips_none}
+use Rattle.store_side.proofs.Zipping.{Zips, zips_none}
 use Rattle.sealed_machine.proofs.SealedStates.{Holds, Seals, SealedNode, SealedWatch, IsSealedState, found, Keeps, change_zips, ephemerals_zip, stats, others_zip, watching_if_zips}
 use Rattle.sealed_machine.proofs.SealedChanges.{Alike, need_alike, refuse_alike, done_alike, op_asked, OpensOutput, SealedEffect, perform_sealed}
 use Rattle.sealed_machine.proofs.SealedMultis.{AlikeAll, perform_all_sealed, all_deleted_sealed}

@@ -26,7 +26,7 @@ unfoldable pub use Rattle.sealed_machine.specs.Veils.{IsLast, IsGiven, VeilsChan
 pub use Rattle.sealed_machine.specs.Veils.{VeilsCreate}
 unfoldable pub use Rattle.sealed_machine.specs.Opens.{OpensEvent}
 pub use Rattle.sealed_machine.specs.Opens.{OpensOutput, SealedEffect, SealedEffects}
-use Rattle.tree_server.proofs.Zipping.{Zips, Both, zips_none, zips_append, both_some}
+use Rattle.store_side.proofs.Zipping.{Zips, Both, zips_none, zips_append, both_some}
 use Rattle.sealed_machine.proofs.SealedPaths.{above_seals, child_seals}
 use Rattle.sealed_machine.proofs.SealedNames.{sealed_number}
 use Rattle.sealed_machine.proofs.SealedStates.{Holds, Seals, SealsName, SealedNode, SealedPlace, IsSealedState, found, there, Keeps, change_zips, add_zips, remove_zips, have_children, stats, told_agree, left_zips}

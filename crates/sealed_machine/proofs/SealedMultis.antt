@@ -15,7 +15,7 @@ use Rattle.tree_state.specs.Trees.{IsNaming}
 use Rattle.tree_state.specs.Plain.{plain}
 use Rattle.tree_state.specs.Commands.{Change}
 use Rattle.tree_state.specs.Changes.{Trial, failed, done, Naming, Effect, Effects, no_effects, after_effect, or_failed, perform_all, all_deleted, runtime_inconsistency}
-use Rattle.tree_server.proofs.Zipping.{Zips, zips_append}
+use Rattle.store_side.proofs.Zipping.{Zips, zips_append}
 use Rattle.sealed_machine.proofs.SealedStates.{Seals, IsSealedState}
 use Rattle.sealed_machine.proofs.SealedChanges.{Alike, VeilsChange, op_asked, OpensOutput, SealedEffect, SealedEffects, perform_sealed, deleted_sealed}
 

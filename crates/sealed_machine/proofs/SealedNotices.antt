@@ -14,9 +14,9 @@ use Rattle.tree_state.specs.Commands.{set_watches}
 use Rattle.tree_state.specs.Changes.{Naming}
 use Rattle.tree_state.specs.Step.{Notice, tells, watches, content_notice, exist_notice, child_notice, Noticed, noticed, all_noticed, with_noticed, answer}
 unfoldable pub use Rattle.sealed_machine.specs.Veils.{asked_of}
-unfoldable pub use Rattle.tree_server.specs.Follows.{Shows}
+unfoldable pub use Rattle.store_side.specs.Follows.{Shows}
 pub use Rattle.sealed_machine.specs.Opens.{SealedNoticed, SealedAnswer}
-use Rattle.tree_server.proofs.Zipping.{Zips, Both, zips_none, zips_one, zips_append}
+use Rattle.store_side.proofs.Zipping.{Zips, Both, zips_none, zips_one, zips_append}
 use Rattle.sealed_machine.proofs.SealedStates.{Seals, SealedNode, SealedPlace, IsSealedState, found, watching_zips}
 use Rattle.sealed_machine.proofs.SealedChanges.{OpensOutput, one_event}
 use Rattle.sealed_machine.proofs.OpenOutcomes.{empty_opens}

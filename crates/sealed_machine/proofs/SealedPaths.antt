@@ -7,7 +7,7 @@ use Rattle.tree_state.specs.Nodes.{Path, same_path, above, name_under}
 use Rattle.tree_state.proofs.SamePaths.{same_path-true, same_path-from}
 use Rattle.sealed_machine.specs.Seals.{Seals, SealsName}
 use Rattle.sealed_machine.proofs.SealedNames.{sealed_root, sealed_child, one_path}
-use Rattle.tree_server.proofs.Zipping.{Both, tests_agree, both_cond, both_none}
+use Rattle.store_side.proofs.Zipping.{Both, tests_agree, both_cond, both_none}
 
 -- sealed paths are equal exactly where the paths are
 pub seals_agree : (k : Keys) → AreKeys k → (p p' q q' : Path) → Seals k p q → Seals k p' q' → same_path p p' ≡ same_path q q'

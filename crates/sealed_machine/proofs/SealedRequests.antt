@@ -23,7 +23,7 @@ use Rattle.tree_state.proofs.Serving as serving
 use Rattle.std.proofs.lemmas.Option.{none-some}
 use Rattle.zk_messages.specs.Refuses.{ArePaths}
 use Rattle.zk_messages.proofs.FirstRules.{one_outcome}
-use Rattle.tree_server.proofs.Zipping.{Zips}
+use Rattle.store_side.proofs.Zipping.{Zips}
 use Rattle.sealed_machine.proofs.SealedNames.{sealed_legal}
 use Rattle.sealed_machine.proofs.SealedChanges.{VeilsChange}
 use Rattle.sealed_machine.proofs.SealedAnswers.{VeilsCommand}

@@ -15,7 +15,7 @@ use Rattle.tree_state.specs.State.{Aspect, Watch, is_on, is_off, connection_if_o
 use Rattle.tree_state.proofs.SamePaths.{same_path-true}
 unfoldable pub use Rattle.sealed_machine.specs.Seals.{Holds}
 pub use Rattle.sealed_machine.specs.Seals.{Seals, SealsName, SealedNode, SealedPlace, SealedWatch, IsSealedState}
-use Rattle.tree_server.proofs.Zipping.{Zips, Both, zips_one, zips_append, zips_map, zips_filter, zips_filter_map, any_agree, length_zips, same_zips, both_cond, both_none, choose, ands_agree}
+use Rattle.store_side.proofs.Zipping.{Zips, Both, zips_one, zips_append, zips_map, zips_filter, zips_filter_map, any_agree, length_zips, same_zips, both_cond, both_none, choose, ands_agree}
 use Rattle.sealed_machine.proofs.SealedPaths.{seals_agree, under}
 
 -- a payload has 61 bytes more than its content

@@ -24,10 +24,10 @@ use Rattle.tree_state.specs.Commands.{Command}
 use Rattle.tree_state.specs.Changes.{Naming, all_deleted}
 use Rattle.tree_state.specs.Step.{Answer, answer, Act, connects, asks as asking, loses, expires, Next, hears, replied, taken, with_session, with_moved, connected_at, connected, answer_connect, watches_gone, connection_at, ended, lost, expired, step}
 unfoldable pub use Rattle.sealed_machine.specs.Opens.{OpensMessage}
-pub use Rattle.tree_server.specs.Follows.{ShowsReply}
+pub use Rattle.store_side.specs.Follows.{ShowsReply}
 pub use Rattle.sealed_machine.specs.Opens.{Answers, SealedNext}
 unfoldable pub use Rattle.sealed_machine.specs.Runs.{VeilsAct, act_asked, InStep}
-use Rattle.tree_server.proofs.Zipping.{Zips, zips_none, zips_one, zips_append, choose}
+use Rattle.store_side.proofs.Zipping.{Zips, zips_none, zips_one, zips_append, choose}
 use Rattle.sealed_machine.proofs.SealedPaths.{root_seals}
 use Rattle.sealed_machine.proofs.SealedStates.{Holds, SealedWatch, IsSealedState, ephemerals_zip, others_zip}
 use Rattle.sealed_machine.proofs.SealedChanges.{OpensEvent, OpensOutput, SealedEffects}

@@ -20,7 +20,7 @@ use Rattle.request_rewrite.specs.Names.{IsNameOf, SealNameOf}
 use Rattle.request_rewrite.specs.Veil.{VeilsCreate as TextCreate}
 use Rattle.tree_state.specs.Nodes.{Path}
 use Rattle.tree_state.specs.Commands.{AreTextsOf, IsCreate}
-use Rattle.tree_server.proofs.Zipping.{Zips}
+use Rattle.store_side.proofs.Zipping.{Zips}
 use Rattle.sealed_machine.proofs.SealedNames.{sealed_child, stem_text, sealed_legal, sealed_stem}
 use Rattle.sealed_machine.proofs.SealedStates.{Holds, Seals}
 use Rattle.sealed_machine.proofs.SealedChanges.{IsLast, IsGiven, VeilsCreate}

@@ -34,7 +34,7 @@ use Rattle.watch_rewrite.specs.Events.{IsPlainEvent}
 use Rattle.tree_state.specs.declared.message.Message.{Message}
 use Rattle.tree_state.specs.declared.message.Message.TheVariants as messages
 use Rattle.tree_state.specs.Nodes.{Path}
-use Rattle.tree_server.specs.Messages.{SpellsMessage, Messages}
+use Rattle.store_side.specs.Messages.{SpellsMessage, Messages}
 use Rattle.sealed_machine.specs.Runs.{Question, IsAnswerable, AreAnswerable, Talks, silent, told_event, told_reply, told_session}
 use Rattle.sealed_machine.proofs.ShorterValues.{IsWritten, Shrinks, shrinks_same, shrinks_pair, shrinks_path, shrinks_stat, shrinks_node}
 use Rattle.sealed_machine.proofs.ShorterNames.{shrinks_list}

@@ -14,14 +14,14 @@ use Rattle.tree_state.specs.Commands.{Command, IsCommand}
 use Rattle.tree_state.specs.Plain.{plain}
 use Rattle.tree_state.specs.Step.{Act}
 use Rattle.tree_state.specs.Trees.{IsNaming}
-use Rattle.tree_server.specs.Follows.{Shown}
-use Rattle.tree_server.specs.Acts.{AreActs}
-use Rattle.tree_server.specs.Orders.{FitsOutput}
-use Rattle.tree_server.specs.Out.{outputs, out}
-use Rattle.tree_server.specs.declared.entry.Entry.{Entry}
-use Rattle.tree_server.specs.Zips.{Zips}
+use Rattle.store_side.specs.Follows.{Shown}
+use Rattle.store_side.specs.Acts.{AreActs}
+use Rattle.store_side.specs.Orders.{FitsOutput}
+use Rattle.store_side.specs.Out.{outputs, out}
+use Rattle.store_side.specs.declared.entry.Entry.{Entry}
+use Rattle.store_side.specs.Zips.{Zips}
 use Rattle.sealed_machine.specs.Veils.{IsIvOf, VeilsCommand, asked_of}
-use Rattle.tree_server.specs.Messages.{Messages}
+use Rattle.store_side.specs.Messages.{Messages}
 use Rattle.sealed_machine.specs.Runs.{VeilsAct, InStep, Question, AreAnswerable, Talks, all_asked}
 
 -- there is a naming with exactly the names of an enclave

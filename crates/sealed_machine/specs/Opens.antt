@@ -16,8 +16,8 @@ use Rattle.tree_state.specs.declared.message.Output.{Output}
 use Rattle.tree_state.specs.Commands.{Change, Command}
 use Rattle.tree_state.specs.Changes.{Effect, Effects}
 use Rattle.tree_state.specs.Step.{Answer, Next, Noticed}
-use Rattle.tree_server.specs.Zips.{Zips}
-use Rattle.tree_server.specs.Follows.{Shows, ShowsReply}
+use Rattle.store_side.specs.Zips.{Zips}
+use Rattle.store_side.specs.Follows.{Shows, ShowsReply}
 use Rattle.sealed_machine.specs.Seals.{SealedWatch, IsSealedState}
 use Rattle.sealed_machine.specs.Veils.{op_asked, asked_of}
 

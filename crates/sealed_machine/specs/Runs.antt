@@ -18,7 +18,7 @@ use Rattle.tree_state.specs.Step.{Act, asks as asking, step}
 use Rattle.tree_state.specs.Plain.{plain}
 use Rattle.sealed_machine.specs.Seals.{IsSealedState}
 use Rattle.sealed_machine.specs.Veils.{VeilsCommand, asked_of}
-use Rattle.tree_server.specs.Follows.{ShowsReply}
+use Rattle.store_side.specs.Follows.{ShowsReply}
 use Rattle.sealed_machine.specs.Opens.{SealedNext}
 
 -- a request goes on veiled, and all else is the same

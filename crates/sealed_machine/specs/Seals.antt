@@ -10,7 +10,7 @@ use Rattle.payload_seal.specs.declared.keys.EntryKeys.{EntryKeys}
 use Rattle.tree_state.specs.Nodes.{Path, Node, Place}
 use Rattle.tree_state.specs.Places.{IsApart}
 use Rattle.tree_state.specs.State.{Watch, State}
-use Rattle.tree_server.specs.Zips.{Zips}
+use Rattle.store_side.specs.Zips.{Zips}
 
 -- the second path is the first one, which is legal, sealed
 pub record Seals (k : Keys) (p q : Path) : Type 0 where

@@ -11,7 +11,7 @@ use Rattle.request_queue.specs.declared.asked.AskedOp.{AskedOp}
 use Rattle.request_queue.specs.declared.asked.AskedOp.TheVariants as op_asks
 use Rattle.tree_state.specs.Nodes.{Path}
 use Rattle.tree_state.specs.Commands.{Change, create, delete, set_content, check, Command, refused, single, multi, set_acl, stat_at, get_content, get_acl, get_children, sync, ping, set_watches, close}
-use Rattle.tree_server.specs.Zips.{Zips}
+use Rattle.store_side.specs.Zips.{Zips}
 use Rattle.sealed_machine.specs.Seals.{Seals, Holds}
 
 -- what may be the last component of a create: of a stem where a number will follow

@@ -14,8 +14,8 @@ use Rattle.tree_state.specs.State.{State, Aspect, on_data, on_children, next_zxi
 use Rattle.tree_state.specs.Commands.{Change, create, delete, set_content, check, Command, refused, single, multi, set_acl, stat_at, get_content, get_acl, get_children, sync, ping, set_watches, close}
 use Rattle.tree_state.specs.Changes.{Trial, failed, done, need, refuse, Naming, Effect, Effects, event_to, events_to, creation_events, end_events, deletion_events, content_events, created, deleted, updated, perform, no_effects, after_effect, or_failed, perform_all, all_deleted}
 use Rattle.tree_state.specs.Step.{Act, Answer, with_error, told_only, or_error, answer_single, answer_multi, Notice, tells, watches, Noticed, noticed, all_noticed, with_noticed, answer, taken, replied, hears, answer_connect, expired, step}
-use Rattle.tree_server.specs.Out.{to_connection}
-use Rattle.sealed_machine.proofs.Connections.{to_connection-append}
+use Rattle.store_side.specs.Out.{to_connection}
+use Rattle.store_side.proofs.Appended.{to_connection-append}
 use Rattle.session_law.specs.Law.{sent_by}
 use Rattle.session_law.proofs.Answered.{answers}
 use Rattle.session_law.proofs.SessionMessages.{answers-append}

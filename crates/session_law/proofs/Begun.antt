@@ -19,16 +19,17 @@ use Rattle.tree_state.specs.Plain.{plain}
 use Rattle.tree_state.specs.Changes.{Naming}
 use Rattle.tree_state.specs.Commands.{Command, IsCommand}
 use Rattle.tree_state.specs.Step.{Act, connects, asks as asking, loses, expires, answer_connect, read_only_of, step}
-use Rattle.tree_server.specs.Out.{outputs, to_connection}
+use Rattle.store_side.specs.Out.{outputs, to_connection}
 use Rattle.sealed_machine.specs.Runs.{Question}
 use Rattle.entry_session.specs.StoreTurns.{is_none, IsOfForm}
 use Rattle.session_law.proofs.Words.{AreAsked}
 use Rattle.sealed_machine.specs.Runs.{HasNoConnected}
-use Rattle.tree_server.proofs.Zipping.{Zips}
+use Rattle.store_side.proofs.Zipping.{Zips}
 use Rattle.sealed_machine.proofs.SealedStates.{IsSealedState}
 use Rattle.sealed_machine.proofs.SealedSteps.{VeilsAct, step_sealed}
-use Rattle.sealed_machine.proofs.Connections.{to_connection-append, asked_if, asked_with, asked_in, all_asked}
-use Rattle.sealed_machine.proofs.NoTrace.{nothing_to, NoTrace, IsOthers, step_quiet}
+use Rattle.sealed_machine.proofs.Connections.{asked_if, asked_with, asked_in, all_asked}
+use Rattle.store_side.proofs.Appended.{to_connection-append}
+use Rattle.store_side.proofs.NoTrace.{nothing_to, NoTrace, IsOthers, step_quiet}
 use Rattle.sealed_machine.proofs.KeptRequests.{command_kept}
 use Rattle.sealed_machine.proofs.FirstAnswers.{quiet-append, IsNoConnect, step_is_quiet}
 use Rattle.session_law.proofs.Orders.{Entry, Connect, Take, Lost, Expire, IsAct, IsAsked, MayCome, HasSession, LegalFrom, HasNoConnect, ConnectsOnce}

@@ -22,12 +22,13 @@ use Rattle.tree_state.specs.Commands.{create, delete, set_content, check, Comman
 use Rattle.tree_state.specs.Changes.{all_deleted}
 use Rattle.tree_state.specs.Plain.{plain}
 use Rattle.tree_state.specs.Step.{Act, connects, asks as asking, answer, closed, taken, replied, hears, step, connected}
-use Rattle.tree_server.specs.Out.{outputs, to_connection}
-use Rattle.tree_server.proofs.Zipping.{Zips}
+use Rattle.store_side.specs.Out.{outputs, to_connection}
+use Rattle.store_side.proofs.Zipping.{Zips}
 use Rattle.sealed_machine.specs.Runs.{Question}
 use Rattle.sealed_machine.proofs.SealedAnswers.{asked_of, change_asked}
-use Rattle.sealed_machine.proofs.Connections.{to_connection-append, asked_if, asked_with, asked_in, all_asked}
-use Rattle.sealed_machine.proofs.NoTrace.{is_of, nothing_to, NoTrace, IsOthers, step_quiet}
+use Rattle.sealed_machine.proofs.Connections.{asked_if, asked_with, asked_in, all_asked}
+use Rattle.store_side.proofs.Appended.{to_connection-append}
+use Rattle.store_side.proofs.NoTrace.{is_of, nothing_to, NoTrace, IsOthers, step_quiet}
 use Rattle.sealed_machine.proofs.FirstAnswers.{IsNoConnect}
 use Rattle.session_law.proofs.Orders.{Entry, Connect, Take, Lost, Expire, IsAct, IsAsked, MayCome, HasSession, LegalFrom, HasNoConnect, ConnectsOnce}
 use Rattle.session_law.proofs.Filling.{items_in}

@@ -13,9 +13,9 @@ use Rattle.tree_state.specs.declared.message.Message.TheVariants as messages
 use Rattle.tree_state.specs.State.{State}
 use Rattle.tree_state.specs.Plain.{plain}
 use Rattle.tree_state.specs.Step.{Act}
-use Rattle.tree_server.specs.Out.{outputs, to_connection}
+use Rattle.store_side.specs.Out.{outputs, to_connection}
 use Rattle.sealed_machine.specs.Runs.{Question, Talks, silent, told_event, told_reply, told_session, all_asked}
-use Rattle.tree_server.specs.Fill.{EndsInClose}
+use Rattle.store_side.specs.Fill.{EndsInClose}
 use Rattle.session_law.proofs.Orders.{Entry}
 use Rattle.session_law.proofs.Filling.{items_in}
 use Rattle.session_law.proofs.Closing.{NoneCloses, Closing, stays_open, is_closed}

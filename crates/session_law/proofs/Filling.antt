@@ -15,9 +15,9 @@ use Rattle.sealed_machine.specs.Veils.{IsIvOf}
 use Rattle.entry_session.specs.ClientTurns.{VeilsItem, source_at, greatest_epoch}
 unfoldable pub use Rattle.entry_session.specs.Veiled.{SpellsItems}
 unfoldable pub use Rattle.entry_session.proofs.HandedUp.{VeilsUpTo}
-unfoldable pub use Rattle.tree_server.specs.Fill.{FillsEntry, Fills, left_after, items_in}
-use Rattle.tree_server.specs.Fill.{without_first}
-use Rattle.tree_server.proofs.Zipping.{Zips}
+unfoldable pub use Rattle.store_side.specs.Fill.{FillsEntry, Fills, left_after, items_in}
+use Rattle.store_side.specs.Fill.{without_first}
+use Rattle.store_side.proofs.Zipping.{Zips}
 use Rattle.session_law.proofs.Orders.{Entry, Connect, Take, Lost, Expire, IsVeiled, VeilsEntry}
 
 -- ---- an item, and its sealed form

@@ -10,7 +10,7 @@ use Rattle.tree_state.specs.State.{State, Session, has_connection, session_of, i
 use Rattle.tree_state.specs.Commands.{Change, create, delete, set_content, check, Command, refused, single, multi, set_acl, stat_at, get_content, get_acl, get_children, sync, ping, set_watches, close}
 use Rattle.tree_state.specs.Changes.{Trial, failed, done, need, refuse, Naming, Effect, Effects, created, deleted, updated, perform, no_effects, after_effect, or_failed, perform_all, all_deleted}
 use Rattle.tree_state.specs.Step.{Act, connects, asks as asking, loses, expires, step, taken, replied, expired, Answer, with_error, told_only, or_error, answer_single, answer_multi, with_watch, with_noticed, closed, answer, hears, with_session, with_moved, connected_at, connected, ended, lost}
-use Rattle.sealed_machine.proofs.NoTrace.{no_connection_none}
+use Rattle.store_side.proofs.NoTrace.{no_connection_none}
 use Rattle.sealed_machine.proofs.FirstAnswers.{IsNoConnect}
 
 -- ---- changes leave the sessions as they are

@@ -2,8 +2,8 @@
 use Rattle.std.proofs.Common.{ℕ, List, ◌++◌}
 use Rattle.tree_state.specs.State.{start}
 use Rattle.tree_state.specs.Plain.{plain}
-use Rattle.tree_server.specs.Messages.{Messages}
-use Rattle.tree_server.specs.Out.{out}
+use Rattle.store_side.specs.Messages.{Messages}
+use Rattle.store_side.specs.Out.{out}
 use Rattle.sealed_machine.proofs.AnswersFit.{plain_fits}
 use Rattle.sealed_machine.proofs.RefusalCodes.{all_answerable}
 use Rattle.entry_session.proofs.OwnIvs.{own_ivs}

@@ -8,7 +8,7 @@ use Rattle.zk_messages.specs.declared.request.Item.{Item}
 use Rattle.zk_messages.specs.declared.request.Item.TheVariants as items
 use Rattle.tree_state.specs.State.{start}
 use Rattle.tree_state.specs.Step.{Act}
-use Rattle.tree_server.proofs.Zipping.{Zips}
+use Rattle.store_side.proofs.Zipping.{Zips}
 use Rattle.sealed_machine.specs.Runs.{Question, all_asked}
 use Rattle.entry_session.specs.StoreTurns.{IsOfForm}
 use Rattle.session_law.proofs.Words.{AreAsked, IsBegun, IsOrderly, unheard, heard}

@@ -11,11 +11,12 @@ use Rattle.tree_state.specs.Trees.{IsNaming}
 use Rattle.tree_state.specs.Plain.{plain}
 use Rattle.tree_state.specs.Changes.{Naming}
 use Rattle.tree_state.specs.Step.{Act, connects, asks as asking, loses, expires, step}
-use Rattle.tree_server.specs.Out.{outputs, to_connection}
-use Rattle.tree_server.specs.Follows.{ShowsMessage}
-use Rattle.tree_server.proofs.Zipping.{Zips}
+use Rattle.store_side.specs.Out.{outputs, to_connection}
+use Rattle.store_side.specs.Follows.{ShowsMessage}
+use Rattle.store_side.proofs.Zipping.{Zips}
 use Rattle.sealed_machine.specs.Runs.{Question, Matches, nothing, seen_event, seen_reply, seen_session}
-use Rattle.sealed_machine.proofs.Connections.{to_connection-append, step_match}
+use Rattle.sealed_machine.proofs.Connections.{step_match}
+use Rattle.store_side.proofs.Appended.{to_connection-append}
 use Rattle.sealed_machine.proofs.SealedStates.{IsSealedState}
 use Rattle.sealed_machine.proofs.SealedSteps.{VeilsAct, step_sealed}
 use Rattle.entry_session.specs.Heard.{Heard, from_client, from_store, bad_client, bad_store, given}

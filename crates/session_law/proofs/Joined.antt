@@ -10,19 +10,20 @@ use Rattle.tree_state.specs.State.{start}
 use Rattle.tree_state.specs.Trees.{IsNaming}
 use Rattle.tree_state.specs.Plain.{plain}
 use Rattle.tree_state.specs.Changes.{Naming}
-use Rattle.tree_server.specs.Out.{out}
-use Rattle.tree_server.specs.Orders.{LegalFrom, ConnectsOnce}
-use Rattle.tree_server.specs.Follows.{Past, Follows}
+use Rattle.store_side.specs.Out.{out}
+use Rattle.store_side.specs.Orders.{LegalFrom, ConnectsOnce}
+use Rattle.store_side.specs.Past.{Past}
+use Rattle.store_side.specs.Follows.{Follows}
 use Rattle.sealed_machine.specs.Runs.{Talks, all_asked}
 use Rattle.sealed_machine.proofs.SealedSteps.{start_sealed}
 use Rattle.sealed_machine.proofs.Connections.{all_match, all_told}
-use Rattle.sealed_machine.proofs.NoTrace.{start_none}
+use Rattle.store_side.proofs.NoTrace.{start_none}
 use Rattle.entry_session.specs.Laws.{TakesFirst}
 use Rattle.entry_session.specs.Sides.{bytes_of}
 use Rattle.entry_session.specs.Veiled.{SpellsItems}
 use Rattle.entry_session.proofs.HandedUp.{HandedUp, handed}
 use Rattle.entry_session.proofs.SentItems.{takes_what_was_sent}
-use Rattle.tree_server.specs.Fill.{Fills, items_in}
+use Rattle.store_side.specs.Fill.{Fills, items_in}
 use Rattle.session_law.specs.Law.{Connection, IsJoined, taken_at, AreBehind}
 use Rattle.session_law.proofs.InTurn.{told_behind, same_taken}
 use Rattle.session_law.proofs.Words.{IsOrderly}

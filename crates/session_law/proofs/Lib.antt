@@ -1,6 +1,5 @@
 pub mod Answered
 pub mod Words
-pub mod OneBody
 pub mod Pieces
 pub mod SessionMessages
 pub mod SessionStands

@@ -6,7 +6,7 @@ use Rattle.zk_records.specs.declared.connect.ConnectResponse.{ConnectResponse}
 use Rattle.zk_messages.specs.declared.request.Item.{Item}
 use Rattle.tree_state.specs.declared.message.Message.{Message}
 use Rattle.tree_state.specs.declared.message.Message.TheVariants as messages
-use Rattle.tree_server.specs.Messages.{Messages}
+use Rattle.store_side.specs.Messages.{Messages}
 use Rattle.sealed_machine.specs.Runs.{Question, Talks, silent, told_event, told_reply, told_session, HasNoConnected}
 use Rattle.entry_session.specs.ClientTurns.{ClientTurn, malformed_frame, full_queue, spent_ivs, handed_up}
 use Rattle.entry_session.specs.Heard.{Heard, from_client, from_store, bad_client, bad_store, given, store_frames, bad_of_store}

@@ -15,15 +15,15 @@ use Rattle.tree_state.specs.Changes.{Naming}
 use Rattle.tree_state.specs.Commands.{Command, IsCommand}
 use Rattle.tree_state.specs.Step.{Act, connects, asks as asking, loses, expires, given_to}
 use Rattle.tree_state.proofs.OneCommand.{one_command}
-unfoldable pub use Rattle.tree_server.specs.Acts.{IsAct}
-unfoldable pub use Rattle.tree_server.specs.Orders.{IsFree, MayCome, HasLast, LegalFrom, HasNoConnect, ConnectsOnce}
+unfoldable pub use Rattle.store_side.specs.Acts.{IsAct}
+unfoldable pub use Rattle.store_side.specs.Orders.{IsFree, MayCome, HasLast, LegalFrom, HasNoConnect, ConnectsOnce}
 unfoldable pub use Rattle.session_law.specs.Law.{VeilsEntry}
-pub use Rattle.tree_server.specs.declared.entry.Entry.{Entry}
-pub use Rattle.tree_server.specs.declared.entry.Entry.TheVariants.{Connect, Take, Lost, Expire}
-pub use Rattle.tree_server.specs.Acts.{IsAsked}
-pub use Rattle.tree_server.specs.Orders.{MayConnect, HasSession, IsOver, IsNext, given_in, next_session}
+pub use Rattle.store_side.specs.declared.entry.Entry.{Entry}
+pub use Rattle.store_side.specs.declared.entry.Entry.TheVariants.{Connect, Take, Lost, Expire}
+pub use Rattle.store_side.specs.Acts.{IsAsked}
+pub use Rattle.store_side.specs.Orders.{MayConnect, HasSession, IsOver, IsNext, given_in, next_session}
 pub use Rattle.session_law.specs.Law.{IsVeiled}
-use Rattle.tree_server.proofs.Zipping.{Zips}
+use Rattle.store_side.proofs.Zipping.{Zips}
 use Rattle.sealed_machine.proofs.SealedStates.{IsSealedState}
 use Rattle.sealed_machine.proofs.SealedRequests.{veiled_command}
 use Rattle.sealed_machine.proofs.SealedSteps.{VeilsAct, step_sealed}

@@ -5,11 +5,11 @@ use Rattle.std.proofs.lemmas.List.Elements.{All-head, All-tail}
 use Rattle.jute_core.specs.Frames.{frame, FitsFrame, IsRest}
 use Rattle.jute_core.proofs.OneStream.{one_frame}
 use Rattle.tree_state.specs.declared.message.Message.{Message}
-use Rattle.tree_server.specs.Messages.{SpellsMessage, Messages}
-use Rattle.tree_server.proofs.Zipping.{Zips}
+use Rattle.store_side.specs.Messages.{SpellsMessage, Messages}
+use Rattle.store_side.proofs.Zipping.{Zips}
 use Rattle.entry_session.specs.Sides.{bytes_of}
 unfoldable pub use Rattle.session_law.proofs.Words.{AreWhole, SpellsFront}
-use Rattle.session_law.proofs.OneBody.{one_body}
+use Rattle.store_side.proofs.OneBody.{one_body}
 
 pub frame_filled : (b x : List ℕ) → frame b ++ x ≡ [] → ⊥
 unfolding frame

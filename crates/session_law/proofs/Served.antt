@@ -6,11 +6,11 @@ use Rattle.tree_state.specs.declared.message.Message.{Message}
 use Rattle.tree_state.specs.State.{start}
 use Rattle.tree_state.specs.Plain.{plain}
 use Rattle.tree_state.specs.Step.{Act}
-use Rattle.tree_server.specs.Messages.{Messages}
-use Rattle.tree_server.specs.Out.{out}
-use Rattle.tree_server.specs.Follows.{Past}
-use Rattle.tree_server.specs.declared.entry.Entry.{Entry}
-use Rattle.tree_server.proofs.Zipping.{Zips}
+use Rattle.store_side.specs.Messages.{Messages}
+use Rattle.store_side.specs.Out.{out}
+use Rattle.store_side.specs.Past.{Past, is_over}
+use Rattle.store_side.specs.declared.entry.Entry.{Entry}
+use Rattle.store_side.proofs.Zipping.{Zips}
 use Rattle.sealed_machine.specs.Runs.{all_asked}
 use Rattle.entry_session.specs.Heard.{store_frames, bad_of_store}
 use Rattle.entry_session.specs.Veiled.{SpellsItems}
@@ -20,7 +20,7 @@ use Rattle.entry_session.proofs.HandedDown.{hands_down}
 use Rattle.entry_session.specs.Laws.{IsStopped}
 use Rattle.entry_session.specs.Sides.{EndsAtStore}
 use Rattle.entry_session.specs.declared.ending.Ending.{Ending}
-use Rattle.tree_server.specs.Fill.{items_in}
+use Rattle.store_side.specs.Fill.{items_in}
 use Rattle.entry_session.specs.Runs.{IsGivenEnding}
 use Rattle.session_law.specs.Law.{IsHonestEnd, Connection, IsJoined, IsServed, VeilsEntry, taken_at, AreBehind}
 use Rattle.session_law.proofs.Filling.{same_number}
@@ -76,7 +76,7 @@ heard_all k boot c past x items under_way unfed j m going none =
 -- ---- all that was handed up
 
 -- where all was fed and the store's side goes on, it took all of it
-took_all : (k : EntryKeys) (boot c : ℕ) (past : Past) (x : Connection) (items : List Item) (under_way unfed : List ℕ) (j : IsJoined k boot c past x items under_way unfed) → unfed ≡ [] → past.over c ≡ false → length (items_in c past.order) ≡ length x.stand.items
+took_all : (k : EntryKeys) (boot c : ℕ) (past : Past) (x : Connection) (items : List Item) (under_way unfed : List ℕ) (j : IsJoined k boot c past x items under_way unfed) → unfed ≡ [] → is_over past c ≡ false → length (items_in c past.order) ≡ length x.stand.items
 took_all k boot c past x items under_way unfed j fed over =
     let up = up_of k boot c past x items under_way unfed j in
     let cut = cut_of k boot c past x items under_way unfed j in

@@ -26,9 +26,9 @@ use Rattle.watch_rewrite.specs.Events.{IsPlainEvent, IsFlawOf}
 use Rattle.watch_rewrite.proofs.Judged.{judged_once}
 use Rattle.tree_state.specs.declared.message.Message.{Message}
 use Rattle.tree_state.specs.declared.message.Message.TheVariants as messages
-use Rattle.tree_server.specs.Messages.{SpellsMessage}
-use Rattle.tree_server.specs.Zips.{Zips}
-use Rattle.tree_server.proofs.Zipping.{zips_append, zips_one}
+use Rattle.store_side.specs.Messages.{SpellsMessage}
+use Rattle.store_side.specs.Zips.{Zips}
+use Rattle.store_side.proofs.Zipping.{zips_append, zips_one}
 use Rattle.sealed_machine.specs.Runs.{Question, Talks, HasNoConnected}
 use Rattle.entry_session.specs.Heard.{Heard, from_store, client_frames, store_frames}
 use Rattle.entry_session.specs.Stands.{Stand}

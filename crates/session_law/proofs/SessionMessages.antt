@@ -17,7 +17,7 @@ use Rattle.reply_rewrite.specs.Admits.{Admits}
 use Rattle.watch_rewrite.specs.Events.{IsPlainEvent}
 use Rattle.tree_state.specs.declared.message.Message.{Message}
 use Rattle.tree_state.specs.declared.message.Message.TheVariants as messages
-use Rattle.tree_server.specs.Messages.{SpellsMessage}
+use Rattle.store_side.specs.Messages.{SpellsMessage}
 use Rattle.sealed_machine.specs.Runs.{Question, Talks, silent, told_event, told_reply, told_session, HasNoConnected}
 use Rattle.entry_session.specs.StoreTurns.{item_at, IsOfForm}
 use Rattle.session_law.proofs.Answered.{IsAnswer, answers}

@@ -9,7 +9,7 @@ use Rattle.jute_core.proofs.OneSpelling.{ints_apart}
 use Rattle.payload_seal.specs.declared.keys.EntryKeys.{EntryKeys}
 use Rattle.zk_frame.specs.Framing.{IsTooLong}
 use Rattle.tree_state.specs.declared.message.Message.{Message}
-use Rattle.tree_server.specs.Messages.{Messages}
+use Rattle.store_side.specs.Messages.{Messages}
 use Rattle.entry_session.specs.Heard.{Heard, from_client, from_store, bad_client, bad_store, given, store_frames}
 use Rattle.entry_session.specs.Runs.{store_limit, TurnOf, Ran}
 use Rattle.entry_session.specs.Sides.{bytes_of, IsSide}

@@ -9,8 +9,8 @@ use Rattle.zk_messages.specs.declared.request.Request.TheVariants as requests
 use Rattle.request_queue.specs.declared.asked.Asked.TheVariants as asks
 use Rattle.tree_state.specs.declared.message.Message.{Message}
 use Rattle.tree_state.specs.declared.message.Message.TheVariants as messages
-use Rattle.tree_server.specs.Messages.{SpellsMessage}
-use Rattle.tree_server.specs.Zips.{Zips}
+use Rattle.store_side.specs.Messages.{SpellsMessage}
+use Rattle.store_side.specs.Zips.{Zips}
 use Rattle.sealed_machine.specs.Runs.{Question, Talks, told_session, HasNoConnected}
 use Rattle.entry_session.specs.ClientTurns.{ClientTurn, malformed_frame, full_queue, spent_ivs, handed_up}
 use Rattle.entry_session.specs.Heard.{Heard, from_client, client_frames, store_frames}

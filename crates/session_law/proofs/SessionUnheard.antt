@@ -2,7 +2,7 @@
 use Rattle.std.proofs.Common.{◌≡◌, ℕ, ℤ, pos, ◌<ℤ◌, List, [], ◌∷◌, ◌++◌, Some, refl, sym, subst}
 use Rattle.payload_seal.specs.declared.keys.EntryKeys.{EntryKeys}
 use Rattle.tree_state.specs.declared.message.Message.{Message}
-use Rattle.tree_server.specs.Messages.{Messages}
+use Rattle.store_side.specs.Messages.{Messages}
 use Rattle.entry_session.specs.ClientTurns.{ClientTurn, malformed_frame, full_queue, spent_ivs, handed_up}
 use Rattle.entry_session.specs.Heard.{Heard, from_client, from_store, bad_client, bad_store, given, store_frames, bad_of_store}
 use Rattle.entry_session.specs.Runs.{store_limit, TurnOf, Ran}

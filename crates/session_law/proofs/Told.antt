@@ -11,9 +11,9 @@ use Rattle.tree_state.specs.declared.message.Message.TheVariants as messages
 use Rattle.tree_state.specs.State.{start}
 use Rattle.tree_state.specs.Plain.{plain}
 use Rattle.tree_state.specs.Step.{Act}
-use Rattle.tree_server.specs.Messages.{SpellsMessage, Messages}
-use Rattle.tree_server.specs.Out.{out}
-use Rattle.tree_server.proofs.Zipping.{Zips}
+use Rattle.store_side.specs.Messages.{SpellsMessage, Messages}
+use Rattle.store_side.specs.Out.{out}
+use Rattle.store_side.proofs.Zipping.{Zips}
 use Rattle.sealed_machine.specs.Runs.{Question, Talks, silent, told_event, told_reply, told_session, all_asked, HasNoConnected}
 use Rattle.entry_session.specs.declared.ending.Ending.TheVariants as endings
 use Rattle.entry_session.specs.Heard.{Heard, store_frames, bad_of_store}

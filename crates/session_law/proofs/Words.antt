@@ -10,9 +10,9 @@ use Rattle.tree_state.specs.Step.{Act}
 use Rattle.tree_state.specs.Plain.{plain}
 use Rattle.tree_state.specs.declared.message.Message.TheVariants as messages
 use Rattle.tree_state.specs.State.{start}
-use Rattle.tree_server.specs.Messages.{SpellsMessage}
-use Rattle.tree_server.specs.Out.{out}
-use Rattle.tree_server.specs.Zips.{Zips}
+use Rattle.store_side.specs.Messages.{SpellsMessage}
+use Rattle.store_side.specs.Out.{out}
+use Rattle.store_side.specs.Zips.{Zips}
 use Rattle.sealed_machine.specs.Runs.{Question, all_asked, HasNoConnected}
 use Rattle.entry_session.specs.StoreTurns.{IsOfForm}
 use Rattle.entry_session.specs.Stands.{Stand}

@@ -16,13 +16,14 @@ use Rattle.tree_state.specs.Changes.{Naming}
 use Rattle.tree_state.specs.State.{State, start}
 use Rattle.tree_state.specs.Step.{Act, connects, asks as asking, loses, expires, step}
 use Rattle.sealed_machine.specs.Veils.{IsIvOf}
-use Rattle.tree_server.specs.Zips.{Zips}
-use Rattle.tree_server.specs.Messages.{Messages}
-use Rattle.tree_server.specs.Out.{to_connection, out}
-use Rattle.tree_server.specs.Orders.{Legal}
-use Rattle.tree_server.specs.Follows.{Past, Follows}
-use Rattle.tree_server.specs.declared.entry.Entry.{Entry}
-use Rattle.tree_server.specs.declared.entry.Entry.TheVariants.{Take}
+use Rattle.store_side.specs.Zips.{Zips}
+use Rattle.store_side.specs.Messages.{Messages}
+use Rattle.store_side.specs.Out.{to_connection, out}
+use Rattle.store_side.specs.Orders.{Legal}
+use Rattle.store_side.specs.Past.{Past, is_over}
+use Rattle.store_side.specs.Follows.{Follows}
+use Rattle.store_side.specs.declared.entry.Entry.{Entry}
+use Rattle.store_side.specs.declared.entry.Entry.TheVariants.{Take}
 use Rattle.entry_session.specs.Heard.{Heard, from_client, from_store, bad_client, bad_store, given, client_frames, store_frames, bad_of_client, bad_of_store}
 use Rattle.entry_session.specs.Stands.{Stand}
 use Rattle.entry_session.specs.ClientTurns.{greatest_epoch}
@@ -31,7 +32,7 @@ use Rattle.entry_session.specs.Veiled.{VeilsFrom, SpellsItems}
 use Rattle.entry_session.specs.Sides.{IsSide, EndsAtClient, EndsAtStore, bytes_of}
 use Rattle.entry_session.specs.declared.ending.Ending.{Ending}
 use Rattle.entry_session.specs.declared.ending.Ending.TheVariants as endings
-use Rattle.tree_server.specs.Fill.{Fills, items_in, IsFront, EndsInClose}
+use Rattle.store_side.specs.Fill.{Fills, items_in, IsFront, EndsInClose}
 
 -- ---- what is given
 
@@ -84,7 +85,7 @@ pub record IsJoined (k : EntryKeys) (boot c : ℕ) (past : Past) (x : Connection
   pub partial : List ℕ
   pub stream : Stream (bodies ++ more) partial x.fed
   pub spelled : SpellsItems true (items_in c past.order) bodies
-  pub none_left : past.over c ≡ false → more ≡ []
+  pub none_left : is_over past c ≡ false → more ≡ []
 
 -- ---- what follows
 
@@ -136,7 +137,7 @@ pub record IsServed (k : EntryKeys) (boot c : ℕ) (past : Past) (plain_order : 
   -- all that it sent was handed up once nothing is under way, unless the session ended at a frame of the client
   pub all_handed_up : (EndsAtClient x.stand.ending x.heard → ⊥) → under_way ≡ [] → x.stand.items ≡ items
   -- and the store took all that was handed up once it was fed all of that, while its side goes on
-  pub all_taken : unfed ≡ [] → past.over c ≡ false → items_in c plain_order ≡ x.stand.items
+  pub all_taken : unfed ≡ [] → is_over past c ≡ false → items_in c plain_order ≡ x.stand.items
   -- where the session was closed, nothing more comes
   pub closed : x.stand.ending ≡ Some endings.Closed → (left ≡ []) × EndsInClose (items_in c plain_order)
 

@@ -1,8 +1,7 @@
-pub mod Zips
-pub mod Messages
-pub mod Out
-pub mod Acts
-pub mod Orders
-pub mod Follows
-pub mod Sending
-pub mod Fill
+pub mod DueSets
+pub mod Times
+pub mod Machines
+pub mod Connections
+pub mod Servers
+pub mod Asking
+pub mod Offers

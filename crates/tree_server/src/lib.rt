@@ -1,14 +1,23 @@
-//! The store's side: the order in which it takes what its connections send, and what it tells them.
+//! A store's side: a server that keeps a tree and takes what its connections send, in one order.
 //!
-//! The definitions are in `specs/`, over the plain machine of `tree_state`: `Acts` says what the entries of an order are to the machine,
-//! `Orders` which orders a store may take, `Out` what the machine sends over a run, `Messages` the bytes of that, and `Follows` when a
-//! store that went through a past follows the machine. `Zips` relates two lists place by place.
-//!
-//! Read `Entry` first, then `specs/Orders.antt` and `specs/Follows.antt`.
+//! The definitions are those of `store_side`: what a store goes through is a past, and each call says from which past to which.
+//! A [`Machine`](machine::Machine) is the tree with the order that it went through and what it owes its sessions; `Dues` has these
+//! by the times at which they would be up, and a `Journal` or a `Count` keeps of the order what is to be kept.
 #![tactic(auto)]
 
-mod entry;
-mod message;
+mod books;
+mod connecting;
+mod dues;
+mod journal;
+mod lines;
+mod machine;
+mod request;
+mod sending;
+mod server;
+mod taking;
+mod waiting;
 
-pub use entry::{Entries, Entry};
-pub use message::write_message;
+pub use dues::{Due, Dues};
+pub use journal::{Count, Journal, Keeping};
+pub use server::TreeServer;
+pub use waiting::Waiting;

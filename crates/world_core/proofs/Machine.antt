@@ -5,7 +5,7 @@ use Rattle.std.proofs.lemmas.Int.{ints}
 use Rattle.std.proofs.lemmas.List.Elements.{All-nil, All-cons}
 use Rattle.zk_records.specs.declared.connect.ConnectRequest.{ConnectRequest}
 use Rattle.zk_records.specs.declared.path_watch.PathWatch.{PathWatch}
-use Rattle.tree_server.specs.declared.entry.Entry.{Entry}
+use Rattle.store_side.specs.declared.entry.Entry.{Entry}
 use Rattle.zk_messages.specs.declared.request.Request.{Request}
 use Rattle.zk_messages.specs.declared.request.Request.TheVariants.{Exists, Ping, Close}
 use Rattle.zk_messages.specs.declared.request.Item.{Item}
@@ -18,12 +18,12 @@ use Rattle.tree_state.specs.State.{State, start_at, start, session_of, session_a
 use Rattle.tree_state.specs.Commands.{Command, IsCommand, Asks as Commands, stat_at, ping, close}
 use Rattle.tree_state.specs.Step.{Act, asks, Next, clamped, given_to, step}
 use Rattle.tree_state.specs.Plain.{plain}
-use Rattle.tree_server.specs.Acts.{IsAct, IsAsked, AreActs}
-use Rattle.tree_server.specs.Zips.{Zips}
-use Rattle.tree_server.specs.Out.{outputs, to_connection, out}
-use Rattle.tree_server.specs.Orders.{IsFree, HasSession, MayCome, HasLast, FitsAnswer, FitsOutput, LegalFrom, HasNoConnect, ConnectsOnce, Legal}
-use Rattle.tree_server.specs.Messages.{Messages}
-use Rattle.tree_server.specs.Fill.{Fills, FillsEntry, left_after, without_first}
+use Rattle.store_side.specs.Acts.{IsAct, IsAsked, AreActs}
+use Rattle.store_side.specs.Zips.{Zips}
+use Rattle.store_side.specs.Out.{outputs, to_connection, out}
+use Rattle.store_side.specs.Orders.{IsFree, HasSession, MayCome, HasLast, FitsAnswer, FitsOutput, LegalFrom, HasNoConnect, ConnectsOnce, Legal}
+use Rattle.store_side.specs.Messages.{Messages}
+use Rattle.store_side.specs.Fill.{Fills, FillsEntry, left_after, without_first}
 use Rattle.world_core.specs.Veiled.{VeilsItems, VeilsOrder}
 use Rattle.world_core.specs.FirstForm.{IsFirstConnect, AreFirstRequests, AreFirst}
 use Rattle.world_core.specs.Headline.{passwords, AreAt}

@@ -13,7 +13,7 @@ use Rattle.zk_records.specs.Headers.{reply_header}
 use Rattle.zk_records.specs.Stats.{stat, stat_fields}
 use Rattle.zk_records.specs.declared.stat.Stat.{Stat}
 use Rattle.tree_state.specs.Step.{clamped, read_only_of}
-use Rattle.tree_server.specs.Messages.{SpellsMessage}
+use Rattle.store_side.specs.Messages.{SpellsMessage}
 use Rattle.world_core.specs.Headline.{first_password}
 use Rattle.world_core.specs.FirstOrder.{root_stat, message_of}
 use Rattle.zk_messages.specs.declared.request.Request.TheVariants.{Exists, Close}

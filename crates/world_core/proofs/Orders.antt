@@ -1,6 +1,6 @@
 -- Orders, acts and messages of items that are joined.
 use Rattle.std.proofs.Common.{◌≡◌, List, [], ◌∷◌, ◌++◌, refl, ap}
-use Rattle.tree_server.specs.declared.entry.Entry.{Entry}
+use Rattle.store_side.specs.declared.entry.Entry.{Entry}
 use Rattle.zk_messages.specs.declared.request.Item.{Item}
 use Rattle.tree_state.specs.declared.message.Message.{Message}
 use Rattle.world_core.specs.FirstOrder.{entry_of, message_of, order_of, messages_of}

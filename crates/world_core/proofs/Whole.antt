@@ -4,7 +4,7 @@ use Rattle.std.specs.Prelude.{IsTrue}
 use Rattle.std.proofs.lemmas.List.{append-nil, take-append-drop, drop_all, drop_at}
 use Rattle.jute_core.specs.Frames.{frame, FitsFrame, IsRest}
 use Rattle.jute_core.proofs.OneStream.{one_frame}
-use Rattle.tree_server.specs.declared.entry.Entry.{Entry}
+use Rattle.store_side.specs.declared.entry.Entry.{Entry}
 use Rattle.zk_messages.specs.declared.request.Request.TheVariants.{Close}
 use Rattle.zk_messages.specs.declared.request.Item.{Item}
 use Rattle.zk_messages.specs.declared.request.Item.TheVariants.{Asks, Requests}
@@ -13,10 +13,10 @@ use Rattle.world_core.specs.declared.form.Stage.{Stage}
 use Rattle.world_core.specs.declared.form.Stage.TheVariants.{Fresh, Closed}
 use Rattle.zk_messages.specs.Items.{IsItem}
 use Rattle.zk_messages.specs.Sent.{client_limit, Items, is_first, HasNoFrame}
-use Rattle.tree_server.specs.Messages.{SpellsMessage, Messages}
+use Rattle.store_side.specs.Messages.{SpellsMessage, Messages}
 use Rattle.tree_state.specs.Plain.{plain}
-use Rattle.tree_server.specs.Orders.{Legal}
-use Rattle.tree_server.specs.Fill.{Fills, EndsInClose}
+use Rattle.store_side.specs.Orders.{Legal}
+use Rattle.store_side.specs.Fill.{Fills, EndsInClose}
 use Rattle.world_core.specs.Veiled.{VeilsOrder}
 use Rattle.world_core.specs.FirstForm.{AreFirstRequests, AreFirst, IsFirstForm, frame_limit}
 use Rattle.world_core.specs.FirstOrder.{entry_of, message_of, order_of, acts_of, messages_of}

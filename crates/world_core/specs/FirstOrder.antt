@@ -1,8 +1,8 @@
 -- The order, the acts and the messages of a run over items of the first form, entry by entry.
 use Rattle.std.specs.Prelude.{ℤ, pos, List, [], ◌∷◌, Some, false}
 use Rattle.zk_records.specs.declared.stat.Stat.{Stat}
-use Rattle.tree_server.specs.declared.entry.Entry.{Entry}
-use Rattle.tree_server.specs.declared.entry.Entry.TheVariants.{Connect, Take}
+use Rattle.store_side.specs.declared.entry.Entry.{Entry}
+use Rattle.store_side.specs.declared.entry.Entry.TheVariants.{Connect, Take}
 use Rattle.zk_messages.specs.declared.request.Request.{Request}
 use Rattle.zk_messages.specs.declared.request.Request.TheVariants.{Exists, Ping, Close}
 use Rattle.zk_messages.specs.declared.request.Item.{Item}

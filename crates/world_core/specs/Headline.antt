@@ -3,15 +3,15 @@
 use Rattle.std.specs.Prelude.{◌≡◌, ℕ, ℤ, pos, ◌∷◌, [], ◌==◌, ◌↔◌, List, length, take, Bool, IsTrue, true, if◌then◌else◌}
 use Rattle.jute_core.specs.Frames.{IsRest}
 use Rattle.tree_state.specs.Step.{Act}
-use Rattle.tree_server.specs.declared.entry.Entry.{Entry}
-use Rattle.tree_server.specs.declared.entry.Entry.TheVariants.{Connect, Take, Lost, Expire}
+use Rattle.store_side.specs.declared.entry.Entry.{Entry}
+use Rattle.store_side.specs.declared.entry.Entry.TheVariants.{Connect, Take, Lost, Expire}
 use Rattle.zk_messages.specs.declared.request.Item.{Item}
 use Rattle.zk_messages.specs.Sent.{Items, Sent}
-use Rattle.tree_server.specs.Messages.{Messages}
+use Rattle.store_side.specs.Messages.{Messages}
 use Rattle.tree_state.specs.Plain.{plain}
-use Rattle.tree_server.specs.Out.{out}
-use Rattle.tree_server.specs.Orders.{Legal}
-use Rattle.tree_server.specs.Fill.{Fills, IsFront, EndsInClose}
+use Rattle.store_side.specs.Out.{out}
+use Rattle.store_side.specs.Orders.{Legal}
+use Rattle.store_side.specs.Fill.{Fills, IsFront, EndsInClose}
 use Rattle.world_core.specs.Veiled.{Veiled, VeilsOrder}
 
 -- the password of session 1 under a password key of zeros

@@ -8,7 +8,7 @@ use Rattle.zk_messages.specs.declared.request.Item.{Item}
 use Rattle.zk_messages.specs.Items.{IsItem}
 use Rattle.world_core.specs.FirstForm.{frame_limit}
 use Rattle.world_core.specs.FirstOrder.{entry_of, message_of}
-use Rattle.tree_server.specs.Sending.{AddsFrame}
+use Rattle.store_side.specs.Sending.{AddsFrame}
 use Rattle.world_core.specs.Stages.{is_fresh, MayFollow, stage_after}
 
 -- the item is taken: it has its entry, the client its answer, and the store its frame

@@ -5,8 +5,8 @@ use Rattle.zk_messages.specs.declared.request.Request.{Request}
 use Rattle.zk_messages.specs.declared.request.Request.TheVariants.{Exists, Ping, Close}
 use Rattle.zk_messages.specs.declared.request.Item.{Item}
 use Rattle.zk_messages.specs.declared.request.Item.TheVariants.{Asks, Requests}
-use Rattle.tree_server.specs.declared.entry.Entry.{Entry}
-use Rattle.tree_server.specs.declared.entry.Entry.TheVariants.{Take}
+use Rattle.store_side.specs.declared.entry.Entry.{Entry}
+use Rattle.store_side.specs.declared.entry.Entry.TheVariants.{Take}
 use Rattle.zk_messages.specs.Sent.{Items}
 
 -- the sealed form of a request; so far the others have none

@@ -2,7 +2,7 @@ use super::*;
 use jute_core::Text;
 use std::alloc::Global;
 use std::test::Fail;
-use tree_server::write_message;
+use store_side::write_message;
 use tree_state::Message;
 use zk_messages::Event;
 

@@ -1,5 +1,5 @@
 use Rattle.std.proofs.Common.{◌≡◌, ◌++◌, List, ℕ, ap, ◌∙◌}
-use Rattle.tree_server.specs.Messages.{SpellsMessage}
+use Rattle.store_side.specs.Messages.{SpellsMessage}
 use Rattle.world_core.specs.FirstOrder.{message_of}
 use Rattle.world_core.proofs.MessageLemmas.{answer_short, framed}
 use Rattle.world_core.proofs.runs.push_answer.Goals as goal

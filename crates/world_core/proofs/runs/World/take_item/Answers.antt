@@ -1,5 +1,5 @@
 use Rattle.std.proofs.Common.{◌++◌, ◌∷◌, [], ap, refl, ◌∙◌}
-use Rattle.tree_server.specs.declared.entry.Entry.{Entry}
+use Rattle.store_side.specs.declared.entry.Entry.{Entry}
 use Rattle.world_core.proofs.MessageLemmas.{framed}
 use Rattle.world_core.proofs.runs.World.take_item.Goals as goal
 

@@ -1,0 +1,17 @@
+pub mod Zipping
+pub mod MessageLemmas
+pub mod ReplyLengths
+pub mod RefusedCodes
+pub mod ShortEvents
+pub mod ShortChanges
+pub mod ShortMultis
+pub mod ShortAnswers
+pub mod CanSend
+pub mod Appended
+pub mod QuietChanges
+pub mod NoTrace
+pub mod OneBody
+pub mod Told
+pub mod Sound
+pub mod Counted
+pub mod CountedReplies

@@ -1,0 +1,13 @@
+pub mod Zips
+pub mod Messages
+pub mod Out
+pub mod Acts
+pub mod Orders
+pub mod Past
+pub mod Follows
+pub mod Sending
+pub mod Fitting
+pub mod Owed
+pub mod Calls
+pub mod Fill
+pub mod Counted
