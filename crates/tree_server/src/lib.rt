@@ -15,6 +15,8 @@ mod request;
 mod sending;
 mod server;
 mod taking;
+#[cfg(test)]
+mod tests;
 mod waiting;
 
 pub use dues::{Due, Dues};
