@@ -12,6 +12,8 @@ pub mod QuietChanges
 pub mod NoTrace
 pub mod OneBody
 pub mod Told
+pub mod Within
 pub mod Sound
+pub mod SoundCalls
 pub mod Counted
 pub mod CountedReplies

@@ -43,7 +43,8 @@ pub record IsLegal (new : Past) : Type 0 where
 abbrev pub IsStillUntouched : Past → List Output → Type 0
 IsStillUntouched new sent = (c : ℕ) → (IsAdmitted new c → ⊥) → HasNoConnect c new.order × (to_connection c sent ≡ []) × (new.rests c ≡ []) × (new.endings c ≡ None)
 
-out_grown : (naming : Naming) (acts more : List Act) (c : ℕ) → out naming (acts ++ more) c ≡ out naming acts c ++ to_connection c (outputs naming (after_all naming start acts) more)
+-- what a run sends to a connection, and what more acts send
+pub out_grown : (naming : Naming) (acts more : List Act) (c : ℕ) → out naming (acts ++ more) c ≡ out naming acts c ++ to_connection c (outputs naming (after_all naming start acts) more)
 out_grown naming acts more c =
     ap (to_connection c) (outputs-append naming start acts more) ∙ to_connection-append c (outputs naming start acts) (outputs naming (after_all naming start acts) more)
 

@@ -12,8 +12,9 @@ use Rattle.zk_messages.specs.Requests.{SpellsRequest, RefusedRequest}
 use Rattle.zk_messages.specs.declared.request.Request.{Request}
 use Rattle.zk_messages.specs.declared.request.Request.TheVariants as requests
 use Rattle.tree_state.specs.Commands.{Command, IsCommand}
+use Rattle.tree_state.specs.Changes.{Naming}
 use Rattle.tree_state.specs.State.{State, Session, session_of, session_at}
-use Rattle.tree_state.specs.Step.{Act, loses, connection_at}
+use Rattle.tree_state.specs.Step.{Act, loses, connection_at, step}
 use Rattle.store_side.specs.Past.{Past, Later, after_all, state_of, password_of}
 use Rattle.store_side.specs.Follows.{IsSound}
 use Rattle.store_side.specs.Fitting.{answer_length, frame_limit}
@@ -153,6 +154,12 @@ abbrev pub ending_in : Result (Unit {0}) StoreEnding → Option StoreEnding
 ending_in (Ok x) = None
 ending_in (Err e) = Some e
 
+-- after each of these acts there are no more entries, with those owed then, than may be
+unfoldable pub StaysWithin : Naming → ℕ → ℕ → State → List Act → Type 0
+StaysWithin naming limit count s [] = Unit {0}
+StaysWithin naming limit count s (act ∷ acts) =
+    (count + 1 + reserves (step naming s act).state.sessions ≤ limit) × StaysWithin naming limit (count + 1) (step naming s act).state acts
+
 -- Bytes of a connection came: the entries that its whole frames give were added, and nothing else.
 pub record Fed (c : ℕ) (now : ℤ) (piece : List ℕ) (old new : Past) (answer : Result (Unit {0}) StoreEnding) : Type 0 where
   pub later : Later old new
@@ -163,14 +170,17 @@ pub record Fed (c : ℕ) (now : ℤ) (piece : List ℕ) (old new : Past) (answer
   pub frames : List Entry
   pub entries : later.entries ≡ lost_first moved ++ frames
   pub bodies : List (List ℕ)
+  -- none of them is longer than a frame for a store may be
+  pub short : All (λ b. length b ≤ frame_limit) bodies
   pub spelled : AreFrames c now frames bodies
   pub moves : IsMoved (state_of old) moved frames
+  pub within : IsSound old → StaysWithin old.naming old.limit (length old.order) (state_of old) later.more_acts
   pub stops : Stops new c now frames bodies (old.rests c ++ piece) answer
   pub ending : new.endings c ≡ ending_in answer
   pub others : (d : ℕ) → (d ≡ c → ⊥) → new.endings d ≡ option_or (old.endings d) (ended_by_move moved frames d)
   pub rest : new.rests c ≡ rest_of (new.endings c) (new.rests c)
   pub rests : (d : ℕ) → (d ≡ c → ⊥) → new.rests d ≡ rest_of (new.endings d) (old.rests d)
-  pub written : old.written ≡ true → (answer ≡ Err endings.Memory → ⊥) → new.written ≡ true
+  pub written : (answer ≡ Err endings.Memory → ⊥) → new.written ≡ true
 
 -- ---- the other calls
 
@@ -231,4 +241,4 @@ pub record Ticked (now : ℤ) (old new : Past) (all : Bool) : Type 0 where
   pub first : (n : ℤ) → IsOver (state_of old) n now → Contains numbers n ⊎ ((all ≡ false) × All (λ m. m <ℤ n) numbers)
   pub endings : (d : ℕ) → new.endings d ≡ option_or (old.endings d) (ended_by_expiry numbers (session_of d (state_of old).sessions))
   pub rests : (d : ℕ) → new.rests d ≡ rest_of (new.endings d) (old.rests d)
-  pub written : old.written ≡ true → all ≡ true → new.written ≡ true
+  pub written : all ≡ true → new.written ≡ true

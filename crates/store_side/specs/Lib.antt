@@ -9,5 +9,6 @@ pub mod Sending
 pub mod Fitting
 pub mod Owed
 pub mod Calls
+pub mod Laws
 pub mod Fill
 pub mod Counted

@@ -16,6 +16,6 @@ mod sizes;
 
 pub use ending::StoreEnding;
 pub use entry::{Entries, Entry};
-pub use laws::sends_all;
+pub use laws::{sends_all, stays_sound};
 pub use message::{message_length, write_message};
 pub use side::{Recorded, StoreSide};

@@ -1,6 +1,6 @@
 //! What a store offers to those who connect.
 
-ghost use Rattle.std.specs.Prelude.{◌≡◌, ◌≢◌, ◌⊎◌, ◌+◌, ◌-◌, ◌^◌, ◌++◌, ℕ, List, true, false, length, take, min, Result, Ok, Err, Some, IfOk, IfErr, OnOk, OnErr, is_ok};
+ghost use Rattle.std.specs.Prelude.{◌≡◌, ◌≢◌, ◌⊎◌, ◌+◌, ◌-◌, ◌≤◌, ◌^◌, ◌++◌, ℕ, List, true, false, length, take, min, Result, Ok, Err, Some, IfOk, IfErr, OnOk, OnErr, is_ok};
 ghost use Rattle.store_side.specs.Past.{Past as Went};
 ghost use Rattle.store_side.specs.Follows.{IsSound, IsAdmitted};
 ghost use Rattle.store_side.specs.Owed.{IsTime};
@@ -76,7 +76,8 @@ pub trait StoreSide {
 
     /// How many bytes wait for a connection. Takes no memory.
     fn waiting(&self, connection: u32) -> usize
-        ensures { (past : Went) → stands self.now past → IsAdmitted past connection → past.written ≡ true → result ≡ length (past.waiting connection) };
+        ensures all { (past : Went) → stands self.now past → IsAdmitted past connection → past.written ≡ true → result ≡ length (past.waiting connection) }
+        ensures most { (past : Went) → stands self.now past → IsAdmitted past connection → result ≤ length (past.waiting connection) };
 
     /// A connection to which bytes have come to wait since it was last named here, if the store tells one; it is a hint, and none need be
     /// told. Takes no memory.

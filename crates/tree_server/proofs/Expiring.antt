@@ -1,5 +1,5 @@
 -- The end of a session whose time is up, told.
-use Rattle.std.proofs.Common.{◌≡◌, ℕ, ℤ, Bool, true, List, [], Option, Some, None, refl, sym, ap, ◌∙◌}
+use Rattle.std.proofs.Common.{◌≡◌, ℕ, ℤ, Bool, true, List, [], ◌∷◌, Option, Some, None, refl, sym, ap, ◌∙◌}
 use Rattle.tree_state.specs.declared.held.Held.{Held}
 use Rattle.tree_state.specs.declared.message.Output.{Output}
 use Rattle.tree_state.specs.State.{State, Session, session_at}
@@ -24,6 +24,7 @@ use Rattle.tree_server.specs.Servers.{ExpiresOne, ServerStands, ended_at, expire
 use Rattle.tree_server.proofs.KeptSessions.{expired_quiet}
 use Rattle.tree_server.proofs.TookFrames.{inside}
 use Rattle.tree_server.proofs.ExpiredSessions.{IsExpiredTo, both_expired, expires_one, sound_expired}
+use Rattle.tree_server.proofs.Plain.{plain_sent}
 use Rattle.tree_server.proofs.OverLines.{none_over, one_over}
 
 -- ---- its connection is over
@@ -98,6 +99,7 @@ module _ (named after_named : List ℕ → ℕ → List ℕ → Type 0) (keeps a
     record {
       both = both_expired after_named after_keeps after_room after_held after_books after_lines session now sent connection told.0 written past new is_expired;
       sound = sound_expired after_named after_keeps after_room after_held after_books after_lines session now sent connection told.0 written past new is_expired;
+      plain = plain_sent past (expires session now ∷ []) sent st.plain t.sent_is;
     },
   )
 

@@ -1,7 +1,7 @@
 -- Frames of a connection that are taken one after another, and how a feed of them ends.
-use Rattle.std.proofs.Common.{◌≡◌, ◌≢◌, ◌⊎◌, ℕ, ℤ, Bool, true, List, [], ◌∷◌, ◌++◌, drop, Option, Some, None, Ok, Err, refl, sym, ap, subst, ◌∙◌, arith, append_assoc, inl, inr}
+use Rattle.std.proofs.Common.{◌≡◌, ◌≢◌, ◌⊎◌, ℕ, ℤ, ◌≤◌, All, Bool, true, List, [], ◌∷◌, ◌++◌, length, drop, Option, Some, None, Ok, Err, refl, sym, ap, subst, ◌∙◌, arith, append_assoc, inl, inr}
 use Rattle.std.specs.List.{flat_map}
-use Rattle.std.proofs.lemmas.List.Elements.{All-append, All-cons, All-nil}
+use Rattle.std.proofs.lemmas.List.Elements.{All-append, All-cons, All-nil, All-weaker}
 use Rattle.jute_core.specs.Frames.{frame, FitsFrame, IsRest}
 use Rattle.zk_frame.specs.Framing.{Framing, IsTooLong}
 use Rattle.zk_records.specs.declared.connect.ConnectRequest.{ConnectRequest}
@@ -17,11 +17,11 @@ use Rattle.store_side.specs.Past.{Past, Later, state_of}
 use Rattle.store_side.specs.Follows.{IsSound}
 use Rattle.store_side.specs.Calls.{AreFrames, AreRequests, Fed, IsMoved, IsRefused, no_connect, no_request, ahead, full, too_much, owed_after, Stops, all_taken, at_last, at_length, at_frame, wants as no_memory, ending_after, lost_first, rest_of, with_at}
 use Rattle.store_side.proofs.Appended.{no_connect-back, no_connect-front}
+use Rattle.store_side.proofs.SoundCalls.{at_own, at_other}
 use Rattle.tree_server.specs.Connections.{IsPart, with_ending, with_rest}
 use Rattle.tree_server.specs.Servers.{Gained, TookOne, Reaches, CutsFrame, taken, refused, wants, wants_first, EndsAt, by_frame, by_length, for_memory}
 use Rattle.tree_server.proofs.Cutting.{bytes_more, cut_frame}
 use Rattle.tree_server.proofs.Gains.{HoldsNone, gained_none, gained_more, ending_after_more, taken_some}
-use Rattle.tree_server.proofs.SoundCalls.{at_own, at_other}
 
 -- ---- the next frame
 
@@ -51,6 +51,20 @@ only_requests c now s order None (Take d xid r zxid at ∷ es) bodies connected 
 only_requests c now s order (Some x) (Take d xid r zxid at ∷ es) bodies connected once spelled some moves = absurd moves
 only_requests c now s order moved (Lost d ∷ es) bodies connected once spelled some moves = absurd spelled
 only_requests c now s order moved (Expire session zxid at ∷ es) bodies connected once spelled some moves = absurd spelled
+
+-- ---- frames that are not too long
+
+abbrev IsShortBody : List ℕ → Type 0
+IsShortBody b = length b ≤ frame_limit
+
+short_more : (bodies : List (List ℕ)) (body : List ℕ) → All IsShortBody bodies → length body ≤ frame_limit → All IsShortBody (bodies ++ body ∷ [])
+short_more bodies body h k = All-append IsShortBody bodies (body ∷ []) h (All-cons IsShortBody body [] k (All-nil IsShortBody))
+
+short_fits : (body : List ℕ) → IsShortBody body → FitsFrame body
+short_fits body h = omega (arith, h)
+
+all_fit : (bodies : List (List ℕ)) → All IsShortBody bodies → All FitsFrame bodies
+all_fit bodies h = All-weaker IsShortBody FitsFrame short_fits bodies h
 
 -- ---- so far
 
@@ -89,6 +103,8 @@ reaches_none c now past bytes written on holds =
         entries = g.entries;
         spelled = g.spelled;
         moves = g.moves;
+        within = g.within;
+        tells = g.tells;
         others = g.others;
         rests = g.rests;
         goes_on = on;
@@ -96,7 +112,7 @@ reaches_none c now past bytes written on holds =
       };
       none = none_after;
       connected = inl refl;
-      each = All-nil FitsFrame;
+      short = All-nil IsShortBody;
       cut = refl;
     }
 
@@ -131,7 +147,7 @@ reaches_more c now old mid new bytes f g rest count body limit a b once cuts r t
       gained = one.1;
       none = ending_after_more r.frames t.frames (taken_some c now t.frames body t.gained.spelled) ∙ t.none;
       connected = inr t.connected;
-      each = All-append FitsFrame r.bodies (body ∷ []) r.each (All-cons FitsFrame body [] (omega (arith, cuts.short, limit)) (All-nil FitsFrame));
+      short = short_more r.bodies body r.short (subst (λ (n : ℕ). length body ≤ n) limit cuts.short);
       cut = cut_more bytes (f.held ++ rest) body (g.held ++ drop count rest) r.bodies r.cut (cut_frame f g rest count body cuts);
     }
 
@@ -169,17 +185,19 @@ fed_all c now piece old mid rest r part sound written = record {
   frames = r.frames;
   entries = r.gained.entries;
   bodies = r.bodies;
+  short = r.short;
   spelled = r.gained.spelled;
   moves = r.gained.moves;
+  within = λ before. r.gained.within;
   stops = all_taken
-      (record { whole = r.cut ∙ ap (λ (x : List ℕ). flat_map frame r.bodies ++ x) (sym (at_own c rest mid.rests)); each = r.each; partial = subst IsRest (sym (at_own c rest mid.rests)) part.partial })
+      (record { whole = r.cut ∙ ap (λ (x : List ℕ). flat_map frame r.bodies ++ x) (sym (at_own c rest mid.rests)); each = all_fit r.bodies r.short; partial = subst IsRest (sym (at_own c rest mid.rests)) part.partial })
       (λ z h. part.within z (subst (λ (x : List ℕ). IsTooLong frame_limit x z) (at_own c rest mid.rests) h))
       r.none;
   ending = r.gained.goes_on;
   others = r.gained.others;
   rest = own_rest (mid.endings c) (with_at c rest mid.rests c) r.gained.goes_on;
   rests = λ d other. at_other c d rest mid.rests other ∙ r.gained.rests d other;
-  written = λ before answer. written;
+  written = λ answer. written;
 }
 
 -- ---- the connection is over
@@ -199,9 +217,9 @@ no_rest None e rest f g = absurd cc
 no_rest (Some x) e rest f g = g
 
 fed_over : (c : ℕ) (now : ℤ) (piece : List ℕ) (old new : Past) (e : StoreEnding) (moved : Option ℕ) (frames : List Entry) (bodies : List (List ℕ)) → old.endings c ≡ None
-    → Gained c now old new moved frames bodies → Stops (with_ending c e new) c now frames bodies (old.rests c ++ piece) (Err e) → IsSound (with_ending c e new) → ((e ≡ endings.Memory → ⊥) → new.written ≡ true)
+    → Gained c now old new moved frames bodies → All IsShortBody bodies → Stops (with_ending c e new) c now frames bodies (old.rests c ++ piece) (Err e) → IsSound (with_ending c e new) → ((e ≡ endings.Memory → ⊥) → new.written ≡ true)
     → Fed c now piece old (with_ending c e new) (Err e)
-fed_over c now piece old new e moved frames bodies on g stops sound written = record {
+fed_over c now piece old new e moved frames bodies on g short stops sound written = record {
   later = record {
     naming = g.later.naming;
     key = g.later.key;
@@ -226,14 +244,16 @@ fed_over c now piece old new e moved frames bodies on g stops sound written = re
   frames = frames;
   entries = g.entries;
   bodies = bodies;
+  short = short;
   spelled = g.spelled;
   moves = g.moves;
+  within = λ before. g.within;
   stops = stops;
   ending = at_own c (Some e) new.endings;
   others = λ d other. at_other c d (Some e) new.endings other ∙ g.others d other;
   rest = no_rest (with_at c (Some e) new.endings c) e (with_at c [] new.rests c) (at_own c (Some e) new.endings) (at_own c [] new.rests);
   rests = λ d other. at_other c d [] new.rests other ∙ g.rests d other ∙ ap (λ (o : Option StoreEnding). rest_of o (old.rests d)) (sym (at_other c d (Some e) new.endings other));
-  written = λ before answer. written (λ m. answer (ap Err m));
+  written = λ answer. written (λ m. answer (ap Err m));
 }
 
 -- a frame is refused for the same reason where the connection is over
@@ -267,18 +287,18 @@ pub fed_ends : (c : ℕ) (now : ℤ) (piece : List ℕ) (old mid new : Past) (le
     → Reaches c now old mid (old.rests c ++ piece) left → EndsAt c now mid left new e → ConnectsOnce new.order → IsSound (with_ending c e new) → Fed c now piece old (with_ending c e new) (Err e)
 fed_ends c now piece old mid new left e on a b r (by_frame n x body more begins short (taken y m moved frames g fin written)) once sound =
     let one = gained_one c now old mid new (old.rests c ++ piece) left body moved frames r a b once g in
-    fed_over c now piece old new e one.0 (r.frames ++ frames) (r.bodies ++ body ∷ []) on one.1
+    fed_over c now piece old new e one.0 (r.frames ++ frames) (r.bodies ++ body ∷ []) on one.1 (short_more r.bodies body r.short short)
     (at_last e more (cut_more (old.rests c ++ piece) left body more r.bodies r.cut begins) (ending_after_more r.frames frames (taken_some c now frames body g.spelled) ∙ fin)) sound (λ not_memory. written)
 fed_ends c now piece old mid new left e on a b r (by_frame n x body more begins short (refused y h written)) once sound =
-    fed_over c now piece old mid e r.moved r.frames r.bodies on r.gained
+    fed_over c now piece old mid e r.moved r.frames r.bodies on r.gained r.short
     (at_frame e body more (r.cut ∙ ap (λ (x : List ℕ). flat_map frame r.bodies ++ x) begins ∙ sym (append_assoc (flat_map frame r.bodies) (frame body) more)) short r.none (refused_over c c e now body mid e h)) sound (λ not_memory. written)
 fed_ends c now piece old mid new left e on a b r (by_frame n x body more begins short (wants m moved frames g)) once sound =
     let one = gained_one c now old mid new (old.rests c ++ piece) left body moved frames r a b once g in
-    fed_over c now piece old new endings.Memory one.0 (r.frames ++ frames) (r.bodies ++ body ∷ []) on one.1
+    fed_over c now piece old new endings.Memory one.0 (r.frames ++ frames) (r.bodies ++ body ∷ []) on one.1 (short_more r.bodies body r.short short)
     (no_memory more (cut_more (old.rests c ++ piece) left body more r.bodies r.cut begins)) sound (λ not_memory. absurd (not_memory refl))
 fed_ends c now piece old mid new left e on a b r (by_frame n x body more begins short wants_first) once sound =
-    fed_over c now piece old mid endings.Memory r.moved r.frames r.bodies on r.gained (no_memory left r.cut) sound (λ not_memory. absurd (not_memory refl))
+    fed_over c now piece old mid endings.Memory r.moved r.frames r.bodies on r.gained r.short (no_memory left r.cut) sound (λ not_memory. absurd (not_memory refl))
 fed_ends c now piece old mid new left e on a b r (by_length z h written) once sound =
-    fed_over c now piece old mid (endings.TooLong z) r.moved r.frames r.bodies on r.gained (at_length z left r.cut h r.none) sound (λ not_memory. written)
+    fed_over c now piece old mid (endings.TooLong z) r.moved r.frames r.bodies on r.gained r.short (at_length z left r.cut h r.none) sound (λ not_memory. written)
 fed_ends c now piece old mid new left e on a b r for_memory once sound =
-    fed_over c now piece old mid endings.Memory r.moved r.frames r.bodies on r.gained (no_memory left r.cut) sound (λ not_memory. absurd (not_memory refl))
+    fed_over c now piece old mid endings.Memory r.moved r.frames r.bodies on r.gained r.short (no_memory left r.cut) sound (λ not_memory. absurd (not_memory refl))

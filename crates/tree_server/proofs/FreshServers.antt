@@ -1,5 +1,5 @@
 -- A server at its start.
-use Rattle.std.proofs.Common.{ℕ, List, refl, inl, arith}
+use Rattle.std.proofs.Common.{◌≡◌, ℕ, List, [], refl, inl, arith}
 use Rattle.std.proofs.lemmas.List.Elements.{All-nil}
 use Rattle.tree_state.specs.declared.held.Held.{Held}
 use Rattle.tree_state.specs.Changes.{Naming}
@@ -7,7 +7,7 @@ use Rattle.tree_state.specs.State.{start_at}
 use Rattle.store_side.specs.declared.entry.Entry.{Entry}
 use Rattle.store_side.specs.Zips.{Zips}
 use Rattle.store_side.specs.Messages.{Messages}
-use Rattle.store_side.specs.Out.{outputs, to_connection}
+use Rattle.store_side.specs.Out.{out, outputs, to_connection}
 use Rattle.store_side.specs.Orders.{ConnectsOnce, FitsOutput, HasNoConnect, LegalFrom}
 use Rattle.store_side.specs.Owed.{reserves}
 use Rattle.store_side.specs.Past.{after_all, state_of}
@@ -32,9 +32,13 @@ sound_fresh naming key limit = record {
   untouched = λ c apart. record { no_connect = tt; told = refl; pulled = refl; waiting = refl; rest = refl; goes_on = refl };
 }
 
+plain_fresh : (naming : Naming) (key : List ℕ) (limit c : ℕ) → (fresh naming key limit).told c ≡ out naming [] c
+unfolding outputs to_connection
+plain_fresh naming key limit c = refl
+
 pub server_fresh : (named : List ℕ → ℕ → List ℕ → Type 0) (keeps : List Entry → Type 0) (room : ℕ) (held : Held) (books : Books)
     (lines : Lines) (naming : Naming) (key : List ℕ) (limit : ℕ)
     → Stands named keeps room held books (fresh naming key limit) → AreLines lines (fresh naming key limit)
     → ServerStands named keeps room held books lines (fresh naming key limit)
 server_fresh named keeps room held books lines naming key limit machine are =
-    record { both = record { machine = machine; lines_are = are }; sound = sound_fresh naming key limit }
+    record { both = record { machine = machine; lines_are = are }; sound = sound_fresh naming key limit; plain = plain_fresh naming key limit }

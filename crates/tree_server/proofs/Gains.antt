@@ -7,8 +7,11 @@ use Rattle.store_side.specs.declared.entry.Entry.{Entry}
 use Rattle.store_side.specs.declared.entry.Entry.TheVariants.{Connect, Take, Lost, Expire}
 use Rattle.store_side.specs.declared.ending.StoreEnding.{StoreEnding}
 use Rattle.store_side.specs.Acts.{AreActs, IsAct}
+use Rattle.store_side.specs.Out.{outputs, to_connection}
 use Rattle.store_side.specs.Past.{Past, Later, after_all, state_of}
-use Rattle.store_side.specs.Calls.{AreFrames, AreRequests, IsMoved, ended_by_move, ending_after, lost_first, rest_of}
+use Rattle.store_side.specs.Calls.{AreFrames, AreRequests, IsMoved, StaysWithin, ended_by_move, ending_after, lost_first, rest_of}
+use Rattle.store_side.proofs.Appended.{outputs-append, to_connection-append}
+use Rattle.store_side.proofs.Within.{within_none, within-append}
 use Rattle.store_side.proofs.Zipping.{length_zips}
 use Rattle.tree_server.specs.declared.lines.Line.{Line}
 use Rattle.tree_server.specs.declared.lines.Lines.{Lines}
@@ -16,6 +19,7 @@ use Rattle.tree_server.specs.declared.lines.Standing.{Standing}
 use Rattle.tree_server.specs.declared.lines.Standing.TheVariants.{Open, Over}
 use Rattle.tree_server.specs.Connections.{AreLines, ending_at, ending_of, held_by, line_at, rest_at}
 use Rattle.tree_server.specs.Servers.{Gained}
+use Rattle.tree_server.proofs.LostConnections.{state_more}
 
 -- ---- a later past
 
@@ -206,6 +210,10 @@ same_state old new h none before after =
 
 -- ---- frame after frame
 
+nothing_sent : (past : Past) (d : ℕ) → [] ≡ to_connection d (outputs past.naming (state_of past) [])
+unfolding outputs to_connection
+nothing_sent past d = refl
+
 -- nothing yet
 pub gained_none : (c : ℕ) (now : ℤ) (past : Past) → past.endings c ≡ None → HoldsNone past → Gained c now past past None [] []
 unfolding later_same
@@ -216,11 +224,22 @@ gained_none c now past goes_on holds = record {
   entries = sym (ap (λ (l : List Entry). l ++ []) none_lost);
   spelled = no_frames c now;
   moves = stays_put (state_of past) [];
+  within = within_none past.naming past.limit (length past.order) (state_of past);
+  tells = nothing_sent past;
   others = λ d apart. sym (ap (option_or (past.endings d)) (none_moved [] d) ∙ or_none (past.endings d));
   rests = λ d apart. holds d;
   goes_on = goes_on;
   rest = refl;
 }
+
+-- so many entries there were between
+count_mid : (old mid : Past) → AreActs old.order old.acts → AreActs mid.order mid.acts → (h : Later old mid)
+    → length mid.order ≡ length old.order + length h.more_acts
+count_mid old mid before between h =
+    let a = length_zips IsAct old.order old.acts before in
+    let b = length_zips IsAct mid.order mid.acts between in
+    let n = ap length h.acts ∙ length-append old.acts h.more_acts in
+    omega (arith, a, b, n)
 
 module _ {c : ℕ} {now : ℤ} {old mid new : Past} {moved moved2 : Option ℕ} {frames frames2 : List Entry} {bodies more : List (List ℕ)} where
   rests_on : Gained c now old mid moved frames bodies → Gained c now mid new moved2 frames2 more
@@ -228,6 +247,30 @@ module _ {c : ℕ} {now : ℤ} {old mid new : Past} {moved moved2 : Option ℕ} 
   rests_on h k d apart =
       rest_on (mid.endings d) (new.endings d) (old.rests d) (mid.rests d) (new.rests d) (k.later.endings d)
       (h.rests d apart) (k.rests d apart)
+
+  within_on : AreActs old.order old.acts → AreActs mid.order mid.acts
+      → (h : Gained c now old mid moved frames bodies) (k : Gained c now mid new moved2 frames2 more)
+      → StaysWithin old.naming old.limit (length old.order) (state_of old) (h.later.more_acts ++ k.later.more_acts)
+  within_on before between h k =
+      let count = count_mid old mid before between h.later in
+      let state = state_more old mid h.later.more_acts h.later.naming h.later.acts in
+      let same : StaysWithin mid.naming mid.limit (length mid.order) (state_of mid) k.later.more_acts
+      ≡ StaysWithin old.naming old.limit (length old.order + length h.later.more_acts) (after_all old.naming (state_of old) h.later.more_acts) k.later.more_acts =
+      (λ i. StaysWithin (h.later.naming i) (h.later.limit i) (count i) (state i) k.later.more_acts) in
+      within-append old.naming old.limit (length old.order) (state_of old) h.later.more_acts k.later.more_acts h.within
+      (subst (λ (T : Type 0). T) same k.within)
+
+  tells_on : (h : Gained c now old mid moved frames bodies) (k : Gained c now mid new moved2 frames2 more) (d : ℕ)
+      → h.later.more_told d ++ k.later.more_told d
+      ≡ to_connection d (outputs old.naming (state_of old) (h.later.more_acts ++ k.later.more_acts))
+  tells_on h k d =
+      let state = state_more old mid h.later.more_acts h.later.naming h.later.acts in
+      let front = outputs old.naming (state_of old) h.later.more_acts in
+      let back = outputs old.naming (after_all old.naming (state_of old) h.later.more_acts) k.later.more_acts in
+      (λ i. h.tells d i ++ k.tells d i)
+      ∙ (λ i. to_connection d front ++ to_connection d (outputs (h.later.naming i) (state i) k.later.more_acts))
+      ∙ sym (to_connection-append d front back)
+      ∙ ap (to_connection d) (sym (outputs-append old.naming (state_of old) h.later.more_acts k.later.more_acts))
 
   -- the first that was taken
   pub gained_first : AreActs old.order old.acts → AreActs mid.order mid.acts → frames ≡ []
@@ -248,6 +291,8 @@ module _ {c : ℕ} {now : ℤ} {old mid new : Past} {moved moved2 : Option ℕ} 
             ap (λ (l : List Entry). l ++ k.later.entries) quiet ∙ k.entries ∙ ap (λ (l : List Entry). lost_first moved2 ++ l) first;
         spelled = rw (none, bare) k.spelled;
         moves = rw (none, sym same) k.moves;
+        within = within_on before between h k;
+        tells = tells_on h k;
         others = λ d apart.
             let still : mid.endings d ≡ old.endings d =
             h.others d apart ∙ ap (λ (o : Option ℕ). option_or (old.endings d) (ended_by_move o frames d)) put
@@ -260,11 +305,11 @@ module _ {c : ℕ} {now : ℤ} {old mid new : Past} {moved moved2 : Option ℕ} 
       }
 
   -- a later one, which moves nothing
-  pub gained_next : frames ≢ [] → moved2 ≡ None → AreRequests c now frames2 more
+  pub gained_next : AreActs old.order old.acts → AreActs mid.order mid.acts → frames ≢ [] → moved2 ≡ None → AreRequests c now frames2 more
       → Gained c now old mid moved frames bodies → Gained c now mid new moved2 frames2 more
       → Gained c now old new moved (frames ++ frames2) (bodies ++ more)
   unfolding later_more
-  gained_next some put requests h k = record {
+  gained_next before between some put requests h k = record {
     later = later_more h.later k.later;
     admitted = k.admitted ∙ h.admitted;
     pulled = λ d. k.pulled d ∙ h.pulled d;
@@ -274,6 +319,8 @@ module _ {c : ℕ} {now : ℤ} {old mid new : Past} {moved moved2 : Option ℕ} 
         (λ i. h.entries i ++ next i) ∙ append_assoc (lost_first moved) frames frames2;
     spelled = frames_more c now frames frames2 bodies more some h.spelled requests;
     moves = moves_more (state_of old) moved frames frames2 h.moves;
+    within = within_on before between h k;
+    tells = tells_on h k;
     others = λ d apart.
         k.others d apart ∙ ap (λ (o : Option ℕ). option_or (mid.endings d) (ended_by_move o frames2 d)) put
         ∙ ap (option_or (mid.endings d)) (none_moved frames2 d) ∙ or_none (mid.endings d) ∙ h.others d apart
@@ -296,5 +343,5 @@ pub gained_more : {c : ℕ} {now : ℤ} {old mid new : Past} {moved moved2 : Opt
     → (one : Option ℕ) × Gained c now old new one (frames ++ frames2) (bodies ++ more)
 gained_more {moved = moved} {moved2 = moved2} {frames = frames} before between h k later = elim (none_or_some frames) [
   | inl none ↦ (moved2, gained_first before between none h k)
-  | inr some ↦ (moved, gained_next some (later some).0 (later some).1 h k)
+  | inr some ↦ (moved, gained_next before between some (later some).0 (later some).1 h k)
 ]

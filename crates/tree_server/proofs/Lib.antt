@@ -7,7 +7,9 @@ pub mod SamePast
 pub mod SoundCalls
 pub mod Cutting
 pub mod KeptSessions
+pub mod StepsWithin
 pub mod Gains
+pub mod Plain
 pub mod TookFrames
 pub mod FedFrames
 pub mod OverLines

@@ -18,13 +18,13 @@ use Rattle.store_side.specs.Calls.{IsLoss, after_loss, with_at}
 use Rattle.store_side.proofs.Appended.{after_all-append, no_connect-append}
 use Rattle.store_side.proofs.Told.{messages_none}
 use Rattle.store_side.proofs.Sound.{Grows, grown_sound}
+use Rattle.store_side.proofs.SoundCalls.{at_other}
 use Rattle.tree_server.specs.declared.books.Books.{Books}
 use Rattle.tree_server.specs.declared.lines.Lines.{Lines}
 use Rattle.tree_server.specs.Machines.{Stands, added}
 use Rattle.tree_server.specs.Connections.{AreLines, with_ending}
 use Rattle.tree_server.specs.Servers.{Both}
 use Rattle.tree_server.proofs.SamePast.{stands_same, lines_same}
-use Rattle.tree_server.proofs.SoundCalls.{at_other}
 use Rattle.tree_server.proofs.KeptSessions.{lost_keeps}
 
 -- ---- a past that stands some acts further
@@ -55,7 +55,7 @@ not_over (Some e) h = absurd cc
 
 -- ---- what a loss adds
 
-no_outputs : (past : Past) (c : ℕ) (entries : List Entry) (acts : List Act) → IsLoss past c entries acts
+pub no_outputs : (past : Past) (c : ℕ) (entries : List Entry) (acts : List Act) → IsLoss past c entries acts
     → [] ≡ outputs past.naming (state_of past) acts
 unfolding IsLoss outputs step
 no_outputs past c [] acts h = sym (ap (outputs past.naming (state_of past)) h.0)

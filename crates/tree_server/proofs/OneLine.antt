@@ -427,6 +427,16 @@ read_waiting ls lent c i l n r e p within is k fits sum past h a w =
           (all_waits ls past h (h.written w) c ∙ waits_there ls.lines.items c l there),
     )
 
+-- no more is said to wait than does
+pub read_most : (ls : Lines) (lent : List Line) (c i : ℕ) (l : Line) (n r : ℕ) → lent ≡ ls.lines.items → IsPlace c i → i < length lent
+    → l ≡ get_or lent i l
+    → n ≡ length l.waiting → r ≡ min (n + l.held) (2 ^ 64 - 1) → (past : Past) → AreLines ls past → IsAdmitted past c
+    → r ≤ length (past.waiting c)
+read_most ls lent c i l n r e p within is k sum past h a =
+    let there = line_read ls.lines lent c i l e p within is in
+    let whole = h.waiting c ∙ ap (λ (b : List ℕ). b ++ h.behind c) (waits_there ls.lines.items c l there) in
+    omega (arith, k, sum, h.held c l there, ap length whole, length-append l.waiting (h.behind c))
+
 pub read_none : (ls : Lines) (lent : List Line) (c i : ℕ) → lent ≡ ls.lines.items → IsPlace c i → length lent ≤ i → (past : Past)
     → AreLines ls past → IsAdmitted past c → ⊥
 read_none ls lent c i e p over past h a = not_admitted ls.lines.items past c h.admitted (line_not_read ls.lines lent c i e p over) a

@@ -29,6 +29,8 @@ use Rattle.tree_server.proofs.SoundCalls.{sound_ending, sound_written}
 use Rattle.tree_server.proofs.SamePast.{stands_same}
 use Rattle.tree_server.proofs.Gains.{lines_hold, taken_some}
 use Rattle.tree_server.proofs.KeptSessions.{FrameTaken, moved_apart, quiet_told}
+use Rattle.tree_server.proofs.StepsWithin.{had_session}
+use Rattle.tree_server.proofs.Plain.{plain_sent}
 use Rattle.tree_server.proofs.TookFrames.{AreDistinctSessions, IsTaken, both_taken, gained_taken, sound_taken, sound_over, connected_to, inside}
 use Rattle.tree_server.proofs.FedFrames.{only_requests, reaches_none, reaches_more}
 use Rattle.tree_server.proofs.LostConnections.{goes_on_at}
@@ -74,19 +76,6 @@ frame_of c now body sent moved ending past new t d = record {
   one = d.one;
   distinct = d.distinct;
 }
-
--- who had the session that moved has a session
-had_session : (s : State) (d : ℕ) (frames : List Entry) → IsOnOne s.sessions → IsMoved s (Some d) frames → HasSession s d
-unfolding IsMoved connection_at
-had_session s d [] one h = absurd h
-had_session s d (Connect c asked session timeout password zxid now ∷ es) one h = go (session_at session s.sessions) refl h
-  where
-    go : (o : Option Session) → session_at session s.sessions ≡ o → connection_at o ≡ Some d → HasSession s d
-    go None e f = absurd cc
-    go (Some x) e f = record { session = session; live = one d x session e f }
-had_session s d (Take c xid r zxid now ∷ es) one h = absurd h
-had_session s d (Lost c ∷ es) one h = absurd h
-had_session s d (Expire session zxid now ∷ es) one h = absurd h
 
 moved_is_some : (moved : Option Move) (from : Option ℕ) (m : Move) → option_map (λ (x : Move). x.connection) moved ≡ from → moved ≡ Some m → from ≡ Some m.connection
 moved_is_some None from m e f = absurd cc
@@ -176,6 +165,7 @@ module _ (named after_named : List ℕ → ℕ → List ℕ → Type 0) (keeps a
     record {
       both = both_taken after_named after_keeps after_room after_held after_books after_lines c now body sent moved ending told.0 written past new is_taken;
       sound = sound_taken after_named after_keeps after_room after_held after_books after_lines c now body sent moved ending told.0 written past new is_taken (sym t.ending_is ∙ none);
+      plain = plain_sent past t.acts sent st.plain t.sent_is;
     },
   )
 
@@ -276,6 +266,7 @@ flushed named keeps room held books lines after_lines past st are = record {
     lines_are = are;
   };
   sound = sound_written past true st.sound;
+  plain = st.plain;
 }
 
 module _ (named : List ℕ → ℕ → List ℕ → Type 0) (keeps : List Entry → Type 0) (room : ℕ) (held : Held) (books : Books) (lines after_lines : Lines) (c : ℕ) (now : ℤ) (past : Past) (bytes : List ℕ)

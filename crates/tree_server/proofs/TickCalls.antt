@@ -72,7 +72,7 @@ none_ticked now past written holds sound = record {
   first = λ n over. inr (refl, All-nil (λ (m : ℤ). m <ℤ n));
   endings = λ d. sym (none_ended (past.endings d) (session_of d (state_of past).sessions));
   rests = holds;
-  written = λ before all. absurd cc;
+  written = λ all. absurd cc;
 }
 
 module _ (named : List ℕ → ℕ → List ℕ → Type 0) (keeps : List Entry → Type 0) (room : ℕ) (held : Held) (books : Books)
@@ -91,6 +91,7 @@ module _ (named : List ℕ → ℕ → List ℕ → Type 0) (keeps : List Entry 
             lines_are = are;
           };
           sound = sound_written past written st.sound;
+          plain = st.plain;
         },
         none_ticked now past written (lines_hold lines past st.both.lines_are) (sound_written past written st.sound),
       )
@@ -112,6 +113,7 @@ module _ (named : List ℕ → ℕ → List ℕ → Type 0) (keeps : List Entry 
             lines_are = are;
           };
           sound = sound_written past true st.sound;
+          plain = st.plain;
         };
       })
 

@@ -336,7 +336,7 @@ ticked_all now old new done h sound written = record {
   first = λ n over. elim (h.whole n over) [ inl at ↦ inl at | inr at ↦ absurd (none_in n at) ];
   endings = h.endings;
   rests = h.rests;
-  written = λ before all. written;
+  written = λ all. written;
 }
 
 -- or the first of them
@@ -353,5 +353,5 @@ ticked_front now old new done left h sound = record {
   first = λ n over. elim (h.whole n over) [ inl at ↦ inl at | inr at ↦ inr (refl, front_below done left n h.ascending at) ];
   endings = h.endings;
   rests = h.rests;
-  written = λ before all. absurd cc;
+  written = λ all. absurd cc;
 }

@@ -21,10 +21,11 @@ use Rattle.store_side.specs.Orders.{HasNoConnect, HasSession, LegalFrom, MayCome
 use Rattle.store_side.specs.Owed.{reserves}
 use Rattle.store_side.specs.Past.{Past, after_all, is_over, password_of, state_of}
 use Rattle.store_side.specs.Follows.{IsAdmitted, IsSound, owed}
-use Rattle.store_side.specs.Calls.{AreFrames, AreRequests, IsMoved, ending_after, lost_first, rest_of, with_at}
+use Rattle.store_side.specs.Calls.{AreFrames, AreRequests, IsMoved, StaysWithin, ending_after, lost_first, rest_of, with_at}
 use Rattle.store_side.proofs.NoTrace.{NoTrace}
 use Rattle.store_side.proofs.Appended.{after_all-append, no_connect-back, no_connect-front}
 use Rattle.store_side.proofs.Sound.{Grows, grown_sound}
+use Rattle.store_side.proofs.SoundCalls.{at_own, at_other}
 use Rattle.tree_server.specs.declared.books.Books.{Books}
 use Rattle.tree_server.specs.declared.lines.Lines.{Lines}
 use Rattle.tree_server.specs.declared.taking.Move.{Move}
@@ -32,7 +33,7 @@ use Rattle.tree_server.specs.Machines.{Stands, Took, added, ended_move}
 use Rattle.tree_server.specs.Connections.{AreLines, SpellEach, told_more, with_ending}
 use Rattle.tree_server.specs.Servers.{Both, Gained, taken_to, with_moved}
 use Rattle.tree_server.proofs.SamePast.{stands_same, lines_same}
-use Rattle.tree_server.proofs.SoundCalls.{at_own, at_other}
+use Rattle.tree_server.proofs.StepsWithin.{taken_within}
 use Rattle.tree_server.proofs.KeptSessions.{FrameTaken, others_keep, own_keeps, no_connect_kept, quiet_told}
 
 place_so : (d c : ℕ) → (d == c) ≡ true → d ≡ c
@@ -201,6 +202,18 @@ module _ (named : List ℕ → ℕ → List ℕ → Type 0) (keeps : List Entry 
   own_unmoved : ended_move moved c ≡ None
   own_unmoved = unmoved c past moved t.apart
 
+  state_to : state_of to ≡ after_all past.naming (state_of past) t.took.acts
+  state_to = state_is to ∙ after_all-append past.naming start past.acts t.took.acts ∙ sym (ap (λ (s : State). after_all past.naming s t.took.acts) (state_is past))
+
+  within_to : owed to ≤ to.limit
+  within_to = within_of named keeps room held books to machine_to
+
+  stays_within : StaysWithin past.naming past.limit (length past.order) (state_of past) t.took.acts
+  stays_within = taken_within past.naming (password_of past.key) (state_of past) c now body t.took.adds.moved t.took.adds.frames t.took.acts past.limit past.order
+      frame_taken t.sound.within
+      (subst (λ (es : List Entry). length (past.order ++ es) + reserves (after_all past.naming (state_of past) t.took.acts).sessions ≤ past.limit) t.took.adds.entries_are
+      (subst (λ (s : State). length (past.order ++ t.took.entries) + reserves s.sessions ≤ past.limit) state_to within_to))
+
   pub gained_taken : Gained c now past to t.took.adds.moved t.took.adds.frames (body ∷ [])
   gained_taken = record {
     later = record {
@@ -225,6 +238,8 @@ module _ (named : List ℕ → ℕ → List ℕ → Type 0) (keeps : List Entry 
     entries = t.took.adds.entries_are;
     spelled = t.took.adds.spelled;
     moves = t.took.adds.moves;
+    within = stays_within;
+    tells = λ d. ap (to_connection d) t.took.sent_is;
     others = λ d other. ap (option_or (past.endings d)) (sym (t.took.moved_ends d));
     rests = λ d other. refl;
     goes_on = none_or (past.endings c) (ended_move moved c) t.on own_unmoved;
@@ -232,9 +247,6 @@ module _ (named : List ℕ → ℕ → List ℕ → Type 0) (keeps : List Entry 
   }
 
   -- ---- it is sound
-
-  state_to : state_of to ≡ after_all past.naming (state_of past) t.took.acts
-  state_to = state_is to ∙ after_all-append past.naming start past.acts t.took.acts ∙ sym (ap (λ (s : State). after_all past.naming s t.took.acts) (state_is past))
 
   no_connect_to : (d : ℕ) → (d ≡ c → ⊥) → HasNoConnect d past.order → HasNoConnect d to.order
   no_connect_to d other h =
@@ -268,9 +280,6 @@ module _ (named : List ℕ → ℕ → List ℕ → Type 0) (keeps : List Entry 
     sent_is = t.took.sent_is;
     spelled = t.spelled;
   }
-
-  within_to : owed to ≤ to.limit
-  within_to = within_of named keeps room held books to machine_to
 
   untouched_to : (d : ℕ) → (IsAdmitted past d → ⊥) → HasNoConnect d to.order × (to_connection d sent ≡ []) × (to.rests d ≡ []) × (to.endings d ≡ None)
   untouched_to d outside =

@@ -8,6 +8,7 @@ use Rattle.store_side.specs.Acts.{AreActs}
 use Rattle.store_side.specs.Past.{Past, state_of}
 use Rattle.store_side.specs.Follows.{IsAdmitted, IsSound}
 use Rattle.store_side.specs.Calls.{Fed, Stops, rest_of, admitted_one, after_pull, IsLoss, after_loss}
+use Rattle.store_side.proofs.SoundCalls.{at_own, at_other, sound_admitted, sound_pulled}
 use Rattle.tree_state.specs.Step.{Act}
 use Rattle.tree_server.specs.declared.books.Books.{Books}
 use Rattle.tree_server.specs.declared.lines.Lines.{Lines}
@@ -15,9 +16,10 @@ use Rattle.tree_server.specs.Machines.{Stands, added}
 use Rattle.tree_server.specs.Connections.{AreLines, IsPart, with_ending, with_rest}
 use Rattle.tree_server.specs.Servers.{Both, ServerStands, EndsAt, by_frame, by_length, for_memory, EndsBy, taken, refused, wants, wants_first, Reaches}
 use Rattle.tree_server.proofs.SamePast.{stands_same}
-use Rattle.tree_server.proofs.SoundCalls.{at_own, at_other, sound_admitted, sound_pulled, sound_rest}
+use Rattle.tree_server.proofs.SoundCalls.{sound_rest}
 use Rattle.tree_server.proofs.FedFrames.{fed_all, fed_ends}
-use Rattle.tree_server.proofs.LostConnections.{lost_both, lost_sound}
+use Rattle.tree_server.proofs.LostConnections.{lost_both, lost_sound, no_outputs}
+use Rattle.tree_server.proofs.Plain.{IsPlain, plain_at, plain_more, plain_quiet}
 
 -- where its line holds nothing, all bytes come with the piece
 pub fed_whole : (c : ℕ) (now : ℤ) (held piece : List ℕ) (old new : Past) (answer : Result (Unit {0}) StoreEnding) → IsAdmitted old c → held ≡ old.rests c
@@ -48,8 +50,10 @@ fed_whole c now held piece old new answer admitted same h = record {
   frames = h.frames;
   entries = h.entries;
   bodies = h.bodies;
+  short = h.short;
   spelled = h.spelled;
   moves = h.moves;
+  within = λ before. h.within (sound_rest c [] old admitted before);
   stops = subst (λ (x : List ℕ). Stops new c now h.frames h.bodies x answer) (ap (λ (x : List ℕ). x ++ (held ++ piece)) (at_own c [] old.rests) ∙ ap (λ (x : List ℕ). x ++ piece) same) h.stops;
   ending = h.ending;
   others = h.others;
@@ -62,32 +66,36 @@ fed_whole c now held piece old new answer admitted same h = record {
 
 module _ (named : List ℕ → ℕ → List ℕ → Type 0) (keeps : List Entry → Type 0) (room : ℕ) (held : Held) (books : Books) (lines after : Lines) (past : Past) (st : ServerStands named keeps room held books lines past) where
   pub stands_still : AreLines after past → ServerStands named keeps room held books after past
-  stands_still are = record { both = record { machine = st.both.machine; lines_are = are }; sound = st.sound }
+  stands_still are = record { both = record { machine = st.both.machine; lines_are = are }; sound = st.sound; plain = st.plain }
 
   pub stands_admitted : AreLines after (admitted_one past) → ServerStands named keeps room held books after (admitted_one past)
   stands_admitted are = record {
     both = record { machine = stands_same named keeps room held books past (admitted_one past) (record { naming = refl; key = refl; limit = refl; order = refl; acts = refl }) st.both.machine; lines_are = are };
     sound = sound_admitted past st.sound;
+    plain = st.plain;
   }
 
   pub stands_pulled : (c n : ℕ) → IsAdmitted past c → AreLines after (after_pull c n past) → ServerStands named keeps room held books after (after_pull c n past)
   unfolding after_pull
   stands_pulled c n admitted are = record {
     both = record { machine = stands_same named keeps room held books past (after_pull c n past) (record { naming = refl; key = refl; limit = refl; order = refl; acts = refl }) st.both.machine; lines_are = are };
-    sound = sound_pulled c n past admitted st.sound;
+    sound = sound_pulled past c n st.sound admitted;
+    plain = st.plain;
   }
 
   pub stands_rest : (c : ℕ) (rest : List ℕ) → IsAdmitted past c → AreLines after (with_rest c rest past) → ServerStands named keeps room held books after (with_rest c rest past)
   stands_rest c rest admitted are = record {
     both = record { machine = stands_same named keeps room held books past (with_rest c rest past) (record { naming = refl; key = refl; limit = refl; order = refl; acts = refl }) st.both.machine; lines_are = are };
     sound = sound_rest c rest past admitted st.sound;
+    plain = st.plain;
   }
 
 pub stands_ended : (named : List ℕ → ℕ → List ℕ → Type 0) (keeps : List Entry → Type 0) (room : ℕ) (held : Held) (books : Books) (lines after : Lines) (c : ℕ) (e : StoreEnding) (past : Past)
-    → Both named keeps room held books lines past → AreLines after (with_ending c e past) → IsSound (with_ending c e past) → ServerStands named keeps room held books after (with_ending c e past)
-stands_ended named keeps room held books lines after c e past both are sound = record {
+    → Both named keeps room held books lines past → AreLines after (with_ending c e past) → IsSound (with_ending c e past) → IsPlain past → ServerStands named keeps room held books after (with_ending c e past)
+stands_ended named keeps room held books lines after c e past both are sound plain = record {
   both = record { machine = stands_same named keeps room held books past (with_ending c e past) (record { naming = refl; key = refl; limit = refl; order = refl; acts = refl }) both.machine; lines_are = are };
   sound = sound;
+  plain = plain;
 }
 
 -- ---- feed
@@ -131,7 +139,8 @@ module _ (named after_named : List ℕ → ℕ → List ℕ → Type 0) (keeps a
   whole_over e h ends =
       let at = on_at c now h.0 h.1 h.4.0 e h.3.gained.goes_on h.4.1 in
       let inside : IsAdmitted h.4.0 c = record { from = admitted.from; below = rw (at.admitted, h.3.gained.admitted) admitted.below } in
-      let stands = stands_ended after_named after_keeps after_room after_held after_books mid_lines after_lines c e h.4.0 h.4.2 (ends h.4.0 h.4.2.lines_are inside at.on) h.4.3 in (
+      let stands = stands_ended after_named after_keeps after_room after_held after_books mid_lines after_lines c e h.4.0 h.4.2 (ends h.4.0 h.4.2.lines_are inside at.on) h.4.3
+      (plain_at c now h.0 h.1 h.4.0 e h.4.1 (plain_more (with_rest c [] past) h.0 h.3.gained.later h.3.gained.tells st.plain)) in (
         with_ending c e h.4.0,
         stands,
         fed_whole c now framer piece past (with_ending c e h.4.0) (Err e) admitted same
@@ -141,6 +150,10 @@ module _ (named after_named : List ℕ → ℕ → List ℕ → Type 0) (keeps a
 
 -- ---- loss
 
+lost_plain : (c : ℕ) (entries : List Entry) (acts : List Act) (past : Past) → IsLoss past c entries acts → IsPlain past → IsPlain (after_loss c entries acts past)
+unfolding after_loss
+lost_plain c entries acts past loss plain = plain_quiet past acts plain (no_outputs past c entries acts loss)
+
 pub loses_one : (named after_named : List ℕ → ℕ → List ℕ → Type 0) (keeps after_keeps : List Entry → Type 0) (room after_room : ℕ) (held after_held : Held) (books after_books : Books) (lines after : Lines) (c : ℕ) (past : Past)
     → ServerStands named keeps room held books lines past → IsAdmitted past c
     → ((es : List Entry) × (acts : List Act) × IsLoss past c es acts × (new : Past) × (new ≡ added es acts past) × Stands after_named after_keeps after_room after_held after_books new)
@@ -149,4 +162,4 @@ pub loses_one : (named after_named : List ℕ → ℕ → List ℕ → Type 0) (
 loses_one named after_named keeps after_keeps room after_room held after_held books after_books lines after c past st admitted h are =
     let machine = subst (λ (p : Past). Stands after_named after_keeps after_room after_held after_books p) h.4 h.5 in
     let sound = lost_sound after_named after_keeps after_room after_held after_books c h.0 h.1 past st.sound admitted h.2 machine in
-    (h.0, h.1, h.2, record { both = lost_both after_named after_keeps after_room after_held after_books after c h.0 h.1 past machine are; sound = sound }, λ before. sound)
+    (h.0, h.1, h.2, record { both = lost_both after_named after_keeps after_room after_held after_books after c h.0 h.1 past machine are; sound = sound; plain = lost_plain c h.0 h.1 past h.2 st.plain }, λ before. sound)

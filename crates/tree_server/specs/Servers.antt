@@ -2,7 +2,7 @@
 use Rattle.std.specs.Prelude.{◌≡◌, ◌⊎◌, ℕ, ℤ, ◌≤◌, ◌==◌, List, [], ◌∷◌, ◌++◌, length, take, Bool, true, Option, Some, None, Result, Ok, Err, All, if◌then◌else◌}
 use Rattle.std.specs.List.{flat_map}
 use Rattle.std.specs.Option.{option_or}
-use Rattle.jute_core.specs.Frames.{frame, FitsFrame, IsRest}
+use Rattle.jute_core.specs.Frames.{frame, IsRest}
 use Rattle.zk_frame.specs.Framing.{Framing, IsTooLong}
 use Rattle.zk_frame.specs.declared.framer.FrameFault.{FrameFault}
 use Rattle.zk_frame.specs.declared.framer.FrameFault.TheVariants as framing
@@ -15,11 +15,11 @@ use Rattle.store_side.specs.declared.entry.Entry.TheVariants.{Expire}
 use Rattle.store_side.specs.declared.ending.StoreEnding.{StoreEnding}
 use Rattle.store_side.specs.declared.ending.StoreEnding.TheVariants as endings
 use Rattle.store_side.specs.Orders.{HasNoConnect}
-use Rattle.store_side.specs.Out.{to_connection}
+use Rattle.store_side.specs.Out.{out, outputs, to_connection}
 use Rattle.store_side.specs.Past.{Past, Later, state_of}
 use Rattle.store_side.specs.Follows.{IsSound}
 use Rattle.store_side.specs.Fitting.{frame_limit}
-use Rattle.store_side.specs.Calls.{AreFrames, IsMoved, IsRefused, ended_by_expiry, ended_by_move, ending_after, lost_first, rest_of}
+use Rattle.store_side.specs.Calls.{AreFrames, IsMoved, IsRefused, StaysWithin, ended_by_expiry, ended_by_move, ending_after, lost_first, rest_of}
 use Rattle.tree_server.specs.declared.books.Books.{Books}
 use Rattle.tree_server.specs.declared.lines.Lines.{Lines}
 use Rattle.tree_server.specs.Connections.{AreLines}
@@ -35,6 +35,8 @@ pub record Both (named : List ℕ → ℕ → List ℕ → Type 0) (keeps : List
 pub record ServerStands (named : List ℕ → ℕ → List ℕ → Type 0) (keeps : List Entry → Type 0) (room : ℕ) (held : Held) (books : Books) (lines : Lines) (past : Past) : Type 0 where
   pub both : Both named keeps room held books lines past
   pub sound : IsSound past
+  -- it tells what the machine sends, with the names of a child list in byte order
+  pub plain : (c : ℕ) → past.told c ≡ out past.naming past.acts c
 
 -- From the old past to the new one, these frames of a connection were taken, and the connection goes on.
 pub record Gained (c : ℕ) (now : ℤ) (old new : Past) (moved : Option ℕ) (frames : List Entry) (bodies : List (List ℕ)) : Type 0 where
@@ -44,6 +46,8 @@ pub record Gained (c : ℕ) (now : ℤ) (old new : Past) (moved : Option ℕ) (f
   pub entries : later.entries ≡ lost_first moved ++ frames
   pub spelled : AreFrames c now frames bodies
   pub moves : IsMoved (state_of old) moved frames
+  pub within : StaysWithin old.naming old.limit (length old.order) (state_of old) later.more_acts
+  pub tells : (d : ℕ) → later.more_told d ≡ to_connection d (outputs old.naming (state_of old) later.more_acts)
   pub others : (d : ℕ) → (d ≡ c → ⊥) → new.endings d ≡ option_or (old.endings d) (ended_by_move moved frames d)
   pub rests : (d : ℕ) → (d ≡ c → ⊥) → new.rests d ≡ rest_of (new.endings d) (old.rests d)
   pub goes_on : new.endings c ≡ None
@@ -115,7 +119,7 @@ pub record Reaches (c : ℕ) (now : ℤ) (old new : Past) (bytes left : List ℕ
   pub gained : Gained c now old new moved frames bodies
   pub none : ending_after frames ≡ None
   pub connected : (frames ≡ []) ⊎ (HasNoConnect c new.order → ⊥)
-  pub each : All FitsFrame bodies
+  pub short : All (λ b. length b ≤ frame_limit) bodies
   pub cut : bytes ≡ flat_map frame bodies ++ left
 
 -- the connection ends at what comes next: by a frame, a length, or for want of memory

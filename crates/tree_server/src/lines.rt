@@ -1,6 +1,6 @@
 //! The connections of a store: the bytes that wait for each, those of a frame that has not come whole, and why it is over.
 
-ghost use Rattle.std.specs.Prelude.{◌≡◌, ◌⊎◌, ◌+◌, ◌-◌, ◌^◌, ◌++◌, ◌∷◌, ℕ, List, [], true, false, length, take, drop, min, Err, Some, None, IfOk, IfErr, OnOk, OnErr, is_ok};
+ghost use Rattle.std.specs.Prelude.{◌≡◌, ◌⊎◌, ◌+◌, ◌-◌, ◌≤◌, ◌^◌, ◌++◌, ◌∷◌, ℕ, List, [], true, false, length, take, drop, min, Err, Some, None, IfOk, IfErr, OnOk, OnErr, is_ok};
 ghost use Rattle.tree_state.specs.Changes.{Naming};
 ghost use Rattle.store_side.specs.Fitting.{AllCanBeSent, CanBeSent, frame_limit};
 ghost use Rattle.store_side.specs.Past.{Past as Went};
@@ -327,7 +327,8 @@ impl Lines {
 
     /// How many bytes wait for a connection. Takes no memory.
     pub(crate) fn waiting(&self, connection: u32) -> usize
-        ensures { (past : Went) → AreLines self.now past → IsAdmitted past connection → past.written ≡ true → result ≡ length (past.waiting connection) }
+        ensures all { (past : Went) → AreLines self.now past → IsAdmitted past connection → past.written ≡ true → result ≡ length (past.waiting connection) }
+        ensures most { (past : Went) → AreLines self.now past → IsAdmitted past connection → result ≤ length (past.waiting connection) }
     {
         match self.lines.get(place(connection)) {
             Some(line) => line.waiting.len().saturating_add(line.held),

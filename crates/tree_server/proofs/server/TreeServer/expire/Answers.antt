@@ -9,7 +9,7 @@ use Rattle.tree_server.proofs.server.TreeServer.expire.Goals as goal
 pub returns-in_err-ended-clause-memory : goal.returns-in_err-ended-clause-memory
 returns-in_err-ended-clause-memory g c =
     let p = err_from_is_err_and c.from_residual.result c.from_residual.ensures.1 in
-    rw p.1 (λ past st all over. inl (record { both = record { machine = c.in_err-ended.ensures.memory past st.both.machine; lines_are = st.both.lines_are }; sound = st.sound }))
+    rw p.1 (λ past st all over. inl (record { both = record { machine = c.in_err-ended.ensures.memory past st.both.machine; lines_are = st.both.lines_are }; sound = st.sound; plain = st.plain }))
 
 pub returns-in_default-clause-memory : goal.returns-in_default-clause-memory
 returns-in_default-clause-memory g c =

@@ -1,6 +1,6 @@
 use Rattle.std.proofs.Common.{FitsSigned, [], ◌∙◌, w64}
 use Rattle.std.proofs.lemmas.Int.{to_z-of_z}
-use Rattle.tree_server.proofs.SoundCalls.{at_own}
+use Rattle.store_side.proofs.SoundCalls.{at_own}
 use Rattle.tree_server.proofs.WholeFeeds.{stands_rest, whole_fed, whole_over}
 use Rattle.tree_server.proofs.server.TreeServerStoreSide.feed.Goals as goal
 
