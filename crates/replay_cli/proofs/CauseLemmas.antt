@@ -5,8 +5,8 @@ use Rattle.replay_cli.specs.declared.stops.Stop.TheVariants as stops
 use Rattle.replay_cli.specs.declared.stops.Status.{Status}
 use Rattle.replay_cli.specs.declared.stops.Status.TheVariants.{ReadFault, KeyMalformed, ScriptMalformed, WriteFault, Memory}
 use Rattle.replay_cli.specs.Told.{Told}
-use Rattle.replay_cli.specs.Words.{Words, word, IsKeyed, Fits}
-use Rattle.replay_cli.specs.Run.{IsTooLong, Prints, HasLong, HasBadKey, HasBadLine, IsNotBuilt, StopsAtKey, StopsAtLine}
+use Rattle.replay_cli.specs.Words.{Words, word, IsKeyed, IsUnbuilt, Fits}
+use Rattle.replay_cli.specs.Run.{IsTooLong, Prints, HasLong, HasBadKey, HasBadLine, StopsAtKey, StopsAtLine}
 use Rattle.replay_cli.specs.Stops.{Because, status_of}
 use Rattle.replay_cli.proofs.RunLemmas.{one_of_three, one_reading, reading_built}
 
@@ -38,13 +38,12 @@ key_line : (words : Words) (told : List ℕ → Told) (number : ℕ) → StopsAt
 key_line words told number stop (inl bad) = stop.1.0 bad.1.0
 key_line words told number stop (inr bad) = stop.1.0 bad.1.0
 
-key_built : (words : Words) (told : List ℕ → Told) → StopsAtKey words told → IsNotBuilt words told → ⊥
-key_built words told stop (inl unbuilt) = reading_built words (inl stop.0) unbuilt
-key_built words told stop (inr cannot) = stop.1.0 cannot.1.0
+key_built : (words : Words) (told : List ℕ → Told) → StopsAtKey words told → IsUnbuilt words → ⊥
+key_built words told stop unbuilt = reading_built words (inl stop.0) unbuilt
 
 -- why a run stops where its key can only be malformed
 pub key_ends : (stop : Stop) (words : Words) (told : List ℕ → Told) (unread : List ℕ → Type 0) (result : Status)
-    → Because stop (Fits words → ⊥) unread (HasLong words told) (HasBadKey words told) (HasBadLine words told) (IsNotBuilt words told)
+    → Because stop (Fits words → ⊥) unread (HasLong words told) (HasBadKey words told) (HasBadLine words told) (IsUnbuilt words)
     → (result ≡ status_of stop) ⊎ (result ≡ Memory) ⊎ (result ≡ WriteFault) → StopsAtKey words told
     → (result ≡ KeyMalformed) ⊎ (result ≡ ReadFault) ⊎ (result ≡ WriteFault) ⊎ (result ≡ Memory)
 key_ends stops.BadWords words told unread result why status at = absurd (key_fits words told at why)
@@ -83,14 +82,12 @@ line_long words told name stop (inr show) = one_reading words (line_keyed words 
 line_key : (words : Words) (told : List ℕ → Told) (size : ℕ) → StopsAtLine words told → HasBadKey words told size → ⊥
 line_key words told size stop bad = stop.0.0 (bad.1.0, bad.1.1, bad.1.2.0)
 
-line_built : (words : Words) (told : List ℕ → Told) → StopsAtLine words told → IsNotBuilt words told → ⊥
-line_built words told stop (inl unbuilt) = reading_built words (inl (line_keyed words told stop)) unbuilt
-line_built words told (key, inl stop) (inr cannot) = stop.1.0 (cannot.1.1.0, cannot.1.1.1, (cannot.1.1.2.0, cannot.1.1.2.1))
-line_built words told (key, inr stop) (inr cannot) = one_of_three words cannot.0 stop.0
+line_built : (words : Words) (told : List ℕ → Told) → StopsAtLine words told → IsUnbuilt words → ⊥
+line_built words told stop unbuilt = reading_built words (inl (line_keyed words told stop)) unbuilt
 
 -- why a run stops where its script can only be outside its grammar
 pub line_ends : (stop : Stop) (words : Words) (told : List ℕ → Told) (unread : List ℕ → Type 0) (result : Status)
-    → Because stop (Fits words → ⊥) unread (HasLong words told) (HasBadKey words told) (HasBadLine words told) (IsNotBuilt words told)
+    → Because stop (Fits words → ⊥) unread (HasLong words told) (HasBadKey words told) (HasBadLine words told) (IsUnbuilt words)
     → (result ≡ status_of stop) ⊎ (result ≡ Memory) ⊎ (result ≡ WriteFault) → StopsAtLine words told
     → (result ≡ ScriptMalformed) ⊎ (result ≡ ReadFault) ⊎ (result ≡ WriteFault) ⊎ (result ≡ Memory)
 line_ends stops.BadWords words told unread result why status at = absurd (line_fits words told at why)

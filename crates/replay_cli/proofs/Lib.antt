@@ -4,7 +4,6 @@ pub mod EventLemmas
 pub mod ReadingLemmas
 pub mod GrammarLemmas
 pub mod PartLemmas
-pub mod SaidLemmas
 pub mod RunLemmas
 pub mod CauseLemmas
 pub mod EndLemmas
@@ -15,3 +14,7 @@ pub mod ShowLemmas
 pub mod OneShow
 pub mod FindingLemmas
 pub mod PlayLemmas
+pub mod Admitting
+pub mod Happenings
+pub mod Links
+pub mod Playing

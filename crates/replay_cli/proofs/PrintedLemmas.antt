@@ -2,7 +2,7 @@
 use Rattle.std.proofs.Common.{◌≡◌, ℕ, List, [], ◌∷◌, ◌++◌, sym, ap, ◌∙◌, append_assoc}
 use Rattle.std.proofs.lemmas.List.{append-nil}
 use Rattle.store_side.specs.declared.entry.Entry.{Entry}
-use Rattle.replay_cli.specs.Printed.{entry_text, entries_text, Shown, shown_text, connection_text}
+use Rattle.replay_cli.specs.Printed.{entry_text, entries_text}
 
 pub entries_more : (entries : List Entry) (entry : Entry) → entries_text (entries ++ entry ∷ []) ≡ entries_text entries ++ entry_text entry
 unfolding entries_text
@@ -12,12 +12,3 @@ entries_more (first ∷ entries) entry = ap (λ (l : List ℕ). entry_text first
 pub no_entries : (before : List ℕ) → before ≡ before ++ entries_text []
 unfolding entries_text
 no_entries before = sym (append-nil before)
-
--- no connection, or one
-pub no_shown : (text : List ℕ) → text ≡ text ++ shown_text 1 []
-unfolding shown_text
-no_shown text = sym (append-nil text)
-
-pub one_shown : (c : Shown) → shown_text 1 (c ∷ []) ≡ connection_text 1 c.ending c.store c.received c.handed
-unfolding shown_text
-one_shown c = append-nil (connection_text 1 c.ending c.store c.received c.handed)

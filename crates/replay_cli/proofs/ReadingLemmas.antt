@@ -7,6 +7,11 @@ use Rattle.std.proofs.lemmas.List.Sums.{count_by-le-length}
 use Rattle.replay_cli.specs.Lines.{lines, IsSkipped, counted, SaysBy, IsFirstBadBy}
 use Rattle.replay_cli.specs.Reading.{TakesBy, RefusesBy}
 
+-- what one more event adds to what was counted
+pub counted_more : {E : Type 0} (adds : E → ℕ) (es : List E) (e : E) → counted adds (es ++ e ∷ []) ≡ counted adds es + adds e
+counted_more adds [] e = omega arith
+counted_more adds (f ∷ es) e = let h = counted_more adds es e in omega arith
+
 -- One more line
 
 says_skipped : {E : Type 0} (text : E → List ℕ) (may : ℕ → E → Type 0) (adds : E → ℕ) (count : ℕ) (ls : List (List ℕ)) (events : List E) (line : List ℕ) → IsSkipped line

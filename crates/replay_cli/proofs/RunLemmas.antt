@@ -3,65 +3,32 @@ use Rattle.std.proofs.Common.{◌≡◌, ◌∙◌, ◌++◌, inl, inr, ℕ, Lis
 use Rattle.std.proofs.Math.Seq.{take-length}
 use Rattle.jute_core.specs.Faults.{Takes, HasCause}
 use Rattle.std.specs.Prelude.{IfErr}
-use Rattle.replay_cli.specs.declared.script.Event.{Event}
 use Rattle.replay_cli.specs.declared.stops.Stop.{Stop}
 use Rattle.replay_cli.specs.declared.stops.Stop.TheVariants.{BadWords, Unread, TooLong, KeyMalformed, ScriptMalformed, NotBuilt, Memory}
 use Rattle.replay_cli.specs.Told.{Told}
 use Rattle.replay_cli.specs.Sinks.{ReportsFault, fault_line}
 use Rattle.replay_cli.specs.Words.{Words, word, IsReplay, IsHostile, IsShow, IsUnbuilt, IsKeyed, ReadsFiles, Fits}
-use Rattle.replay_cli.specs.Script.{IsScript, IsFirstBadLine}
+use Rattle.replay_cli.specs.Script.{IsFirstBadLine}
 use Rattle.replay_cli.specs.HostileScript.{IsFirstBadHostileLine}
-use Rattle.replay_cli.specs.Run.{MayHold, MayBe, Prints, IsBuilt, IsUnbuiltScript, IsKey, CannotBuild, IsBadKey, IsBadScript, IsLongOf, HasLong, HasBadKey, HasBadLine, StopsAtFile, IsNotBuilt}
+use Rattle.replay_cli.specs.Run.{MayHold, MayBe, Prints, IsKey, IsBadKey, IsBadScript, IsLongOf, HasLong, HasBadKey, HasBadLine, StopsAtFile}
 use Rattle.replay_cli.specs.Stops.{Because, BecauseOfScript, IsUnreadOf, IsUnread}
 
--- One script
+-- Where a key was loaded, the causes of its script
 
-script_stop : (stop : Stop) (P Q : Type 0) (b : ℕ → Type 0) → (P → Q) → BecauseOfScript stop (λ n. ⊥) P → BecauseOfScript stop b Q
-script_stop BadWords P Q b f h = h
-script_stop (Unread name) P Q b f h = h
-script_stop (TooLong name) P Q b f h = h
-script_stop (KeyMalformed size) P Q b f h = h
-script_stop (ScriptMalformed number) P Q b f h = absurd h
-script_stop NotBuilt P Q b f h = f h
-script_stop Memory P Q b f h = tt
-
--- events that are not built are those of a script
-pub unbuilt_script : {T : Type 0} (r : Result T Stop) (script : List ℕ) (events : List Event) (b : ℕ → Type 0) → IsScript script events
-    → IfErr r (λ stop. BecauseOfScript stop (λ n. ⊥) (IsBuilt events → ⊥)) → IfErr r (λ stop. BecauseOfScript stop b (IsUnbuiltScript script))
-unbuilt_script (Ok x) script events b is h = tt
-unbuilt_script (Err stop) script events b is h = script_stop stop (IsBuilt events → ⊥) (IsUnbuiltScript script) b (λ never. (events, is, never)) h
-
-loaded_stop : (stop : Stop) (unread long : List ℕ → Type 0) (bad : ℕ → Type 0) (IsFirstBad : List ℕ → ℕ → Type 0) (P : List ℕ → Type 0) (key script : Told) (bytes : List ℕ) → MayBe key IsKey → MayHold script bytes
-    → BecauseOfScript stop (IsFirstBad bytes) (P bytes) → Because stop ⊥ unread long bad (IsBadScript IsFirstBad key script) (MayBe key IsKey × MayBe script P)
-loaded_stop BadWords unread long bad f P key script bytes k held h = h
-loaded_stop (Unread name) unread long bad f P key script bytes k held h = absurd h
-loaded_stop (TooLong name) unread long bad f P key script bytes k held h = absurd h
-loaded_stop (KeyMalformed size) unread long bad f P key script bytes k held h = absurd h
-loaded_stop (ScriptMalformed number) unread long bad f P key script bytes k held h = (k, (bytes, held, h))
-loaded_stop NotBuilt unread long bad f P key script bytes k held h = (k, (bytes, held, h))
-loaded_stop Memory unread long bad f P key script bytes k held h = tt
-
--- the causes of a script behind a key
-pub loaded_stops : {T : Type 0} (r : Result T Stop) (unread long : List ℕ → Type 0) (bad : ℕ → Type 0) (IsFirstBad : List ℕ → ℕ → Type 0) (P : List ℕ → Type 0) (key script : Told) (bytes : List ℕ)
-    → MayBe key IsKey → MayHold script bytes → IfErr r (λ stop. BecauseOfScript stop (IsFirstBad bytes) (P bytes))
-    → IfErr r (λ stop. Because stop ⊥ unread long bad (IsBadScript IsFirstBad key script) (MayBe key IsKey × MayBe script P))
-loaded_stops (Ok x) unread long bad f P key script bytes k held h = tt
-loaded_stops (Err stop) unread long bad f P key script bytes k held h = loaded_stop stop unread long bad f P key script bytes k held h
-
-hostile_stop : (stop : Stop) (unread long : List ℕ → Type 0) (bad : ℕ → Type 0) (IsFirstBad : List ℕ → ℕ → Type 0) (key script : Told) (bytes : List ℕ) → MayBe key IsKey → MayHold script bytes
+script_stop : (stop : Stop) (unread long : List ℕ → Type 0) (bad : ℕ → Type 0) (IsFirstBad : List ℕ → ℕ → Type 0) (key script : Told) (bytes : List ℕ) → MayBe key IsKey → MayHold script bytes
     → BecauseOfScript stop (IsFirstBad bytes) ⊥ → Because stop ⊥ unread long bad (IsBadScript IsFirstBad key script) ⊥
-hostile_stop BadWords unread long bad f key script bytes k held h = h
-hostile_stop (Unread name) unread long bad f key script bytes k held h = absurd h
-hostile_stop (TooLong name) unread long bad f key script bytes k held h = absurd h
-hostile_stop (KeyMalformed size) unread long bad f key script bytes k held h = absurd h
-hostile_stop (ScriptMalformed number) unread long bad f key script bytes k held h = (k, (bytes, held, h))
-hostile_stop NotBuilt unread long bad f key script bytes k held h = h
-hostile_stop Memory unread long bad f key script bytes k held h = tt
+script_stop BadWords unread long bad f key script bytes k held h = h
+script_stop (Unread name) unread long bad f key script bytes k held h = absurd h
+script_stop (TooLong name) unread long bad f key script bytes k held h = absurd h
+script_stop (KeyMalformed size) unread long bad f key script bytes k held h = absurd h
+script_stop (ScriptMalformed number) unread long bad f key script bytes k held h = (k, (bytes, held, h))
+script_stop NotBuilt unread long bad f key script bytes k held h = h
+script_stop Memory unread long bad f key script bytes k held h = tt
 
-pub hostile_stops : {T : Type 0} (r : Result T Stop) (unread long : List ℕ → Type 0) (bad : ℕ → Type 0) (IsFirstBad : List ℕ → ℕ → Type 0) (key script : Told) (bytes : List ℕ)
+pub script_stops : {T : Type 0} (r : Result T Stop) (unread long : List ℕ → Type 0) (bad : ℕ → Type 0) (IsFirstBad : List ℕ → ℕ → Type 0) (key script : Told) (bytes : List ℕ)
     → MayBe key IsKey → MayHold script bytes → IfErr r (λ stop. BecauseOfScript stop (IsFirstBad bytes) ⊥) → IfErr r (λ stop. Because stop ⊥ unread long bad (IsBadScript IsFirstBad key script) ⊥)
-hostile_stops (Ok x) unread long bad f key script bytes k held h = tt
-hostile_stops (Err stop) unread long bad f key script bytes k held h = hostile_stop stop unread long bad f key script bytes k held h
+script_stops (Ok x) unread long bad f key script bytes k held h = tt
+script_stops (Err stop) unread long bad f key script bytes k held h = script_stop stop unread long bad f key script bytes k held h
 
 -- a key that was loaded may be one
 pub may_be : (key : Told) (P : List ℕ → Type 0) → MayBe key (λ bytes. IsKey bytes × P bytes) → MayBe key IsKey
@@ -82,26 +49,26 @@ renamed : (words : Words) (key script : List ℕ) (P : List ℕ → List ℕ →
 renamed words key script P n h = subst (λ (s : List ℕ). P (word words 1) s) n.script_is (subst (λ (k : List ℕ). P k script) n.key_is h)
 
 replay_stop : (stop : Stop) (words : Words) (key script : List ℕ) (told : List ℕ → Told) (read : ℕ) (failed : Option ℕ) (R : Type 0) → IsReplay words → AreNamed words key script
-    → Because stop ⊥ (λ name. IsUnreadOf key script read failed name × R) (IsLongOf told key script) (IsBadKey (told key)) (IsBadScript IsFirstBadLine (told key) (told script)) (CannotBuild (told key) (told script))
-    → Because stop (Fits words → ⊥) (λ name. IsUnread words read failed name × R) (HasLong words told) (HasBadKey words told) (HasBadLine words told) (IsNotBuilt words told)
+    → Because stop ⊥ (λ name. IsUnreadOf key script read failed name × R) (IsLongOf told key script) (IsBadKey (told key)) (IsBadScript IsFirstBadLine (told key) (told script)) ⊥
+    → Because stop (Fits words → ⊥) (λ name. IsUnread words read failed name × R) (HasLong words told) (HasBadKey words told) (HasBadLine words told) (IsUnbuilt words)
 replay_stop BadWords words key script told read failed R is n h = absurd h
 replay_stop (Unread name) words key script told read failed R is n h = (inl (inl is, either_name name.now key script words read failed n h.0), h.1)
 replay_stop (TooLong name) words key script told read failed R is n h = inl (inl is, renamed words key script (λ k s. IsLongOf told k s name.now) n h)
 replay_stop (KeyMalformed size) words key script told read failed R is n h = (inl is, renamed words key script (λ k s. IsBadKey (told k) size) n h)
 replay_stop (ScriptMalformed number) words key script told read failed R is n h = inl (is, renamed words key script (λ k s. IsBadScript IsFirstBadLine (told k) (told s) number) n h)
-replay_stop NotBuilt words key script told read failed R is n h = inr (is, renamed words key script (λ k s. CannotBuild (told k) (told s)) n h)
+replay_stop NotBuilt words key script told read failed R is n h = absurd h
 replay_stop Memory words key script told read failed R is n h = tt
 
 -- the causes of a replay, in the words of its command line
 pub replay_stops : {T : Type 0} (r : Result T Stop) (words : Words) (key script : List ℕ) (told : List ℕ → Told) (read : ℕ) (failed : Option ℕ) (R : Type 0) → IsReplay words → key ≡ word words 1 → script ≡ word words 2
-    → IfErr r (λ stop. Because stop ⊥ (λ name. IsUnreadOf key script read failed name × R) (IsLongOf told key script) (IsBadKey (told key)) (IsBadScript IsFirstBadLine (told key) (told script)) (CannotBuild (told key) (told script)))
-    → IfErr r (λ stop. Because stop (Fits words → ⊥) (λ name. IsUnread words read failed name × R) (HasLong words told) (HasBadKey words told) (HasBadLine words told) (IsNotBuilt words told))
+    → IfErr r (λ stop. Because stop ⊥ (λ name. IsUnreadOf key script read failed name × R) (IsLongOf told key script) (IsBadKey (told key)) (IsBadScript IsFirstBadLine (told key) (told script)) ⊥)
+    → IfErr r (λ stop. Because stop (Fits words → ⊥) (λ name. IsUnread words read failed name × R) (HasLong words told) (HasBadKey words told) (HasBadLine words told) (IsUnbuilt words))
 replay_stops (Ok x) words key script told read failed R is k s h = tt
 replay_stops (Err stop) words key script told read failed R is k s h = replay_stop stop words key script told read failed R is (record { key_is = k; script_is = s }) h
 
 session_stop : (stop : Stop) (words : Words) (key script : List ℕ) (told : List ℕ → Told) (read : ℕ) (failed : Option ℕ) (R : Type 0) → IsHostile words → AreNamed words key script
     → Because stop ⊥ (λ name. IsUnreadOf key script read failed name × R) (IsLongOf told key script) (IsBadKey (told key)) (IsBadScript IsFirstBadHostileLine (told key) (told script)) ⊥
-    → Because stop (Fits words → ⊥) (λ name. IsUnread words read failed name × R) (HasLong words told) (HasBadKey words told) (HasBadLine words told) (IsNotBuilt words told)
+    → Because stop (Fits words → ⊥) (λ name. IsUnread words read failed name × R) (HasLong words told) (HasBadKey words told) (HasBadLine words told) (IsUnbuilt words)
 session_stop BadWords words key script told read failed R is n h = absurd h
 session_stop (Unread name) words key script told read failed R is n h = (inl (inr is, either_name name.now key script words read failed n h.0), h.1)
 session_stop (TooLong name) words key script told read failed R is n h = inl (inr is, renamed words key script (λ k s. IsLongOf told k s name.now) n h)
@@ -113,7 +80,7 @@ session_stop Memory words key script told read failed R is n h = tt
 -- the causes of a session over a hostile script, in the words of its command line
 pub session_stops : {T : Type 0} (r : Result T Stop) (words : Words) (key script : List ℕ) (told : List ℕ → Told) (read : ℕ) (failed : Option ℕ) (R : Type 0) → IsHostile words → key ≡ word words 1 → script ≡ word words 2
     → IfErr r (λ stop. Because stop ⊥ (λ name. IsUnreadOf key script read failed name × R) (IsLongOf told key script) (IsBadKey (told key)) (IsBadScript IsFirstBadHostileLine (told key) (told script)) ⊥)
-    → IfErr r (λ stop. Because stop (Fits words → ⊥) (λ name. IsUnread words read failed name × R) (HasLong words told) (HasBadKey words told) (HasBadLine words told) (IsNotBuilt words told))
+    → IfErr r (λ stop. Because stop (Fits words → ⊥) (λ name. IsUnread words read failed name × R) (HasLong words told) (HasBadKey words told) (HasBadLine words told) (IsUnbuilt words))
 session_stops (Ok x) words key script told read failed R is k s h = tt
 session_stops (Err stop) words key script told read failed R is k s h = session_stop stop words key script told read failed R is (record { key_is = k; script_is = s }) h
 
@@ -147,11 +114,9 @@ stops_printing words told text (inr script) (inl replay) = script.2 replay.1.scr
 stops_printing words told text (inr script) (inr (inl hostile)) = script.2 hostile.1.script_bytes hostile.1.script_held
 stops_printing words told text (inr script) (inr (inr show)) = one_reading words script.0 show.0
 
-pub stops_built : (words : Words) (told : List ℕ → Told) → StopsAtFile words told → IsNotBuilt words told → ⊥
-stops_built words told (inl first) (inl unbuilt) = reading_built words first.0 unbuilt
-stops_built words told (inl first) (inr (is, cannot)) = first.1 cannot.0.0 cannot.0.1
-stops_built words told (inr script) (inl unbuilt) = reading_built words (inl script.0) unbuilt
-stops_built words told (inr script) (inr (is, cannot)) = script.2 cannot.1.0 cannot.1.1
+pub stops_built : (words : Words) (told : List ℕ → Told) → StopsAtFile words told → IsUnbuilt words → ⊥
+stops_built words told (inl first) unbuilt = reading_built words first.0 unbuilt
+stops_built words told (inr script) unbuilt = reading_built words (inl script.0) unbuilt
 
 pub stops_at_key : (words : Words) (told : List ℕ → Told) (size : ℕ) → StopsAtFile words told → HasBadKey words told size → ⊥
 stops_at_key words told size (inl first) bad = first.1 bad.1.0 bad.1.1

@@ -11,6 +11,8 @@ use Rattle.reply_rewrite.specs.declared.finding.Cause.TheVariants as causes
 use Rattle.reply_rewrite.specs.declared.finding.Finding.{Finding}
 use Rattle.entry_session.specs.declared.ending.Ending.{Ending}
 use Rattle.entry_session.specs.declared.ending.Ending.TheVariants as endings
+use Rattle.store_side.specs.declared.ending.StoreEnding.{StoreEnding}
+use Rattle.store_side.specs.declared.ending.StoreEnding.TheVariants as overs
 use Rattle.replay_cli.specs.Printed.{field, line_feed}
 use Rattle.replay_cli.specs.Reasons.{refusal_text}
 
@@ -42,6 +44,24 @@ ending_text endings.Memory = field (codes "memory") []
 abbrev pub session_text : Option Ending → List ℕ
 session_text None = field (codes "open") []
 session_text (Some ending) = ending_text ending
+
+-- why the store's side of a connection is over; want of memory and of numbers is never printed
+abbrev pub over_text : StoreEnding → List ℕ
+over_text (overs.Malformed refusal) = refusal_text (codes "malformed ") refusal
+over_text (overs.TooLong length) = field (codes "too-long ") (signed_decimal length)
+over_text (overs.AheadOfUs seen last) = field (codes "ahead ") (signed_decimal seen) ++ field (codes " ") (signed_decimal last)
+over_text (overs.Expired session) = field (codes "expired ") (signed_decimal session)
+over_text (overs.Moved session) = field (codes "moved ") (signed_decimal session)
+over_text overs.SessionClosed = field (codes "session-closed") []
+over_text overs.Lost = field (codes "lost") []
+over_text overs.JournalFull = field (codes "journal-full") []
+over_text (overs.AnswerTooLong length) = field (codes "answer-too-long ") (decimal length)
+over_text overs.NumbersUsed = field (codes "numbers-used") []
+over_text overs.Memory = field (codes "memory") []
+
+abbrev pub store_text : Option StoreEnding → List ℕ
+store_text None = field (codes "open") []
+store_text (Some ending) = over_text ending
 
 -- what is wrong with a payload
 abbrev pub flaw_text : Flaw → List ℕ

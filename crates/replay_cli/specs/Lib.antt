@@ -15,6 +15,7 @@ pub mod Show
 pub mod Showing
 pub mod Endings
 pub mod Hostile
+pub mod Worlds
 pub mod Playing
 pub mod Run
 pub mod Stops

@@ -14,15 +14,6 @@ abbrev pub bytes_text : List ℕ → List ℕ
 bytes_text [] = codes "-"
 bytes_text (b ∷ bs) = encode_lower (b ∷ bs)
 
--- what is printed of a connection
-abbrev pub connection_text : ℕ → List ℕ → List ℕ → List ℕ → List ℕ → List ℕ
-connection_text number ending store received handed =
-    line (codes "connection ") (decimal number)
-    ++ line (codes "ending ") ending
-    ++ line (codes "store ") store
-    ++ line (codes "received ") (bytes_text received)
-    ++ line (codes "handed ") (bytes_text handed)
-
 -- a word and a value in a line
 unfoldable pub field : List ℕ → List ℕ → List ℕ
 field word text = word ++ text
@@ -68,18 +59,3 @@ entries_text (entry ∷ entries) = entry_text entry ++ entries_text entries
 -- how many entries there are, and each
 abbrev pub order_text : List Entry → List ℕ
 order_text entries = line (codes "order ") (decimal (length entries)) ++ entries_text entries
-
--- What is printed of a connection: its two endings, what its client received and what was handed to the store.
-pub record Shown : Type 0 where
-  pub ending : List ℕ
-  pub store : List ℕ
-  pub received : List ℕ
-  pub handed : List ℕ
-
--- the texts of connections, from this number on
-unfoldable pub shown_text : ℕ → List Shown → List ℕ
-shown_text number [] = []
-shown_text number (c ∷ more) = connection_text number c.ending c.store c.received c.handed ++ shown_text (number + 1) more
-
-abbrev pub world_text : List Entry → List Shown → List ℕ
-world_text order connections = order_text order ++ shown_text 1 connections

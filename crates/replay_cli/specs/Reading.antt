@@ -1,14 +1,12 @@
 -- How a script is read, line by line.
-use Rattle.std.specs.Prelude.{◌≡◌, ◌≢◌, ◌⊎◌, ℕ, ◌+◌, ◌≤◌, List, [], ◌∷◌, ◌++◌, length, Option, Some, None}
+use Rattle.std.specs.Prelude.{◌≡◌, ◌≢◌, ◌⊎◌, ℕ, ◌≤◌, List, [], ◌∷◌, ◌++◌, Option, Some, None}
 use Rattle.hex.specs.Hex.{encode_lower}
 use Rattle.replay_cli.specs.declared.lines.NotScript.{NotScript}
 use Rattle.replay_cli.specs.declared.lines.NotScript.TheVariants.{BadLine, Memory}
 use Rattle.replay_cli.specs.declared.script.Event.{Event}
-use Rattle.replay_cli.specs.declared.script.Event.TheVariants.{Drain}
 use Rattle.replay_cli.specs.declared.script.Reader.{Reader}
-use Rattle.replay_cli.specs.declared.script.Said.{Said}
 use Rattle.replay_cli.specs.Lines.{lines, IsPiece, IsSkipped, counted}
-use Rattle.replay_cli.specs.Script.{event_text, MayStand, opened_by, opened, sent_by}
+use Rattle.replay_cli.specs.Script.{event_text, MayStand, opened}
 
 -- a text without a space
 unfoldable pub HasNoSpace : List ℕ → Type 0
@@ -46,8 +44,3 @@ IsCounted r = (r.opened ≡ opened r.events.items) × (r.opened ≤ 4096)
 
 abbrev pub IsEvent : List ℕ → ℕ → Event → Type 0
 IsEvent text opened event = (text ≡ event_text event) × MayStand opened event
-
--- an event is added to what those before it come to
-abbrev pub Adds : Said → Event → Said → Type 0
-Adds old Drain new = (new.opened ≡ old.opened) × (new.sent.items ≡ old.sent.items) × (new.drained ≡ length old.sent.items)
-Adds old event new = (new.opened ≡ old.opened + opened_by event) × (new.sent.items ≡ old.sent.items ++ sent_by event) × (new.drained ≡ old.drained)

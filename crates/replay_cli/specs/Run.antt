@@ -1,20 +1,16 @@
 -- What the commands print, and when they print nothing.
-use Rattle.std.specs.Prelude.{◌≡◌, ℕ, ◌<◌, ◌≤◌, ◌⊎◌, List, length, replicate, codes, Bool, IsTrue, if◌then◌else◌}
-use Rattle.std.specs.List.{list_all}
+use Rattle.std.specs.Prelude.{◌≡◌, ℕ, ◌<◌, ◌≤◌, ◌⊎◌, List, length}
 use Rattle.payload_seal.specs.Keys.{IsKeyFileSize}
 use Rattle.payload_seal.specs.declared.keys.EntryKeys.{EntryKeys}
 use Rattle.replay_cli.specs.Told.{Told, untold, missing, holds, Agrees}
-use Rattle.replay_cli.specs.Words.{Words, word, IsReplay, IsHostile, IsShow, IsUnbuilt, IsKeyed, ReadsFiles}
+use Rattle.replay_cli.specs.Words.{Words, word, IsReplay, IsHostile, IsShow, IsKeyed, ReadsFiles}
 use Rattle.replay_cli.specs.Show.{IsShown}
-use Rattle.replay_cli.specs.Printed.{Shown, world_text}
-use Rattle.replay_cli.specs.Script.{IsScript, IsFirstBadLine, opened, sent, drained, is_plain}
+use Rattle.replay_cli.specs.Script.{IsScript, IsFirstBadLine}
+use Rattle.replay_cli.specs.Worlds.{PrintsReplay}
 use Rattle.replay_cli.specs.HostileScript.{IsHostileScript, IsFirstBadHostileLine}
 use Rattle.replay_cli.specs.Hostile.{IsKeysOf, PrintsHostile}
 use Rattle.replay_cli.specs.declared.hostile_script.HostileEvent.{HostileEvent}
 use Rattle.replay_cli.specs.declared.script.Event.{Event}
-use Rattle.store_side.specs.declared.entry.Entry.{Entry}
-use Rattle.world_core.specs.FirstForm.{IsFirstForm}
-use Rattle.world_core.specs.Headline.{Headline}
 
 -- the most bytes that a file may have
 abbrev pub file_limit : ℕ
@@ -34,36 +30,6 @@ IsTooLong (holds all) = file_limit < length all
 abbrev pub IsKey : List ℕ → Type 0
 IsKey key = IsKeyFileSize (length key)
 
--- what is printed of a connection, which is closed on both sides or open on both
-abbrev pub shown : List ℕ → List ℕ → Bool → Shown
-shown received handed closed = record {
-  ending = if closed then codes "closed" else codes "open";
-  store = if closed then codes "session-closed" else codes "open";
-  received = received;
-  handed = handed;
-}
-
--- The events of scripts that are built: connections are opened, send and are drained; there is one at most, of which the client sends
--- bytes of the first form.
-abbrev pub IsBuilt : List Event → Type 0
-IsBuilt events = IsTrue (list_all is_plain events) × (opened events ≤ 1) × IsFirstForm (sent events)
-
--- what these events come to: an order, and what is printed of the connections, of which the headline speaks
-pub record Comes (events : List Event) (order : List Entry) (connections : List Shown) : Type 0 where
-  pub received : List ℕ
-  pub handed : List ℕ
-  pub closed : Bool
-  pub headline : Headline (sent events) (drained events) order received handed closed
-  pub shown_is : connections ≡ replicate (opened events) (shown received handed closed)
-
--- the text is what built events print
-pub record PrintsEvents (events : List Event) (text : List ℕ) : Type 0 where
-  pub order : List Entry
-  pub connections : List Shown
-  pub built : IsBuilt events
-  pub comes : Comes events order connections
-  pub text_is : text ≡ world_text order connections
-
 -- the file may hold bytes that are none of this kind
 abbrev pub IsOutside : Told → (List ℕ → Type 0) → Type 0
 IsOutside told P = (bytes : List ℕ) × MayHold told bytes × (P bytes → ⊥)
@@ -72,24 +38,18 @@ IsOutside told P = (bytes : List ℕ) × MayHold told bytes × (P bytes → ⊥)
 abbrev pub MayBe : Told → (List ℕ → Type 0) → Type 0
 MayBe told P = (bytes : List ℕ) × MayHold told bytes × P bytes
 
--- a script of the grammar, of which the events are not built
-abbrev pub IsUnbuiltScript : List ℕ → Type 0
-IsUnbuiltScript script = (events : List Event) × IsScript script events × (IsBuilt events → ⊥)
-
--- a cause of NotBuilt in the files of a replay, of which the key is read first
-abbrev pub CannotBuild : Told → Told → Type 0
-CannotBuild key script = MayBe key IsKey × MayBe script IsUnbuiltScript
-
 -- the text is what a replay of a key and a script in these files prints
 pub record IsReplayText (key script : Told) (text : List ℕ) : Type 0 where
   pub key_bytes : List ℕ
   pub script_bytes : List ℕ
+  pub keys : EntryKeys
   pub events : List Event
   pub key_held : MayHold key key_bytes
   pub is_key : IsKey key_bytes
+  pub are_keys : IsKeysOf key_bytes keys
   pub script_held : MayHold script script_bytes
   pub is_script : IsScript script_bytes events
-  pub prints : PrintsEvents events text
+  pub prints : PrintsReplay keys events text
 
 -- the text is what one session under the key prints over the events of the script
 pub record IsHostileText (key script : Told) (text : List ℕ) : Type 0 where
@@ -133,10 +93,6 @@ HoldsNone told = (bytes : List ℕ) → MayHold told bytes → ⊥
 abbrev pub StopsAtFile : Words → (List ℕ → Told) → Type 0
 StopsAtFile words told = (ReadsFiles words × HoldsNone (told (word words 1)))
     ⊎ (IsKeyed words × (IsOutside (told (word words 1)) IsKey → ⊥) × HoldsNone (told (word words 2)))
-
--- the command is not built, or what its files are
-abbrev pub IsNotBuilt : Words → (List ℕ → Told) → Type 0
-IsNotBuilt words told = IsUnbuilt words ⊎ (IsReplay words × CannotBuild (told (word words 1)) (told (word words 2)))
 
 -- Malformed keys and scripts
 

@@ -1,5 +1,5 @@
 -- The grammar of replay scripts: a text and its list of events.
-use Rattle.std.specs.Prelude.{◌≡◌, ℕ, ℤ, pos, ◌<◌, ◌≤◌, ◌^◌, List, [], ◌∷◌, ◌++◌, length, codes, Bool, true, false, if◌then◌else◌}
+use Rattle.std.specs.Prelude.{◌≡◌, ℕ, ℤ, pos, ◌<◌, ◌≤◌, ◌^◌, List, [], ◌∷◌, ◌++◌, length, codes}
 use Rattle.std.specs.Fmt.{decimal, signed_decimal}
 use Rattle.hex.specs.Hex.{encode_lower}
 use Rattle.replay_cli.specs.Lines.{lines, spaced, IsPiece, counted, SaysBy, IsFirstBadBy}
@@ -56,43 +56,6 @@ IsScript script events = Says 0 (lines script) events
 abbrev pub IsFirstBadLine : List ℕ → ℕ → Type 0
 IsFirstBadLine script number = IsFirstBadBy event_text MayStand opened_by script number
 
--- What its events come to
-
--- how many connections are opened
+-- how many connections the events open
 abbrev pub opened : List Event → ℕ
 opened events = counted opened_by events
-
--- the bytes of a line `send`
-abbrev pub sent_by : Event → List ℕ
-sent_by (Send connection bytes) = bytes
-sent_by event = []
-
--- the bytes of all lines `send`
-abbrev pub sent : List Event → List ℕ
-sent [] = []
-sent (event ∷ events) = sent_by event ++ sent events
-
-abbrev pub is_drain : Event → Bool
-is_drain Drain = true
-is_drain event = false
-
--- a `drain` is among them
-abbrev pub has_drain : List Event → Bool
-has_drain [] = false
-has_drain (event ∷ events) = if is_drain event then true else has_drain events
-
--- the events before the last `drain`
-abbrev pub before_last_drain : List Event → List Event
-before_last_drain [] = []
-before_last_drain (event ∷ events) = if has_drain events then event ∷ before_last_drain events else []
-
--- how many of the bytes of all lines `send` stand before the last `drain`
-abbrev pub drained : List Event → ℕ
-drained events = length (sent (before_last_drain events))
-
--- a line `open`, `send` or `drain`: the only ones that are built
-abbrev pub is_plain : Event → Bool
-is_plain Open = true
-is_plain (Send connection bytes) = true
-is_plain Drain = true
-is_plain event = false

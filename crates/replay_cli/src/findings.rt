@@ -1,14 +1,15 @@
 //! How endings and findings are printed.
 
 ghost use Rattle.std.specs.Prelude.{◌≡◌, ◌++◌, OnOk, string_bytes};
-ghost use Rattle.replay_cli.specs.Endings.{event_flaw_text, ending_text, session_text, flaw_text, cause_text, finding_text, findings_text};
+ghost use Rattle.replay_cli.specs.Endings.{event_flaw_text, ending_text, session_text, over_text, store_text, flaw_text, cause_text, finding_text, findings_text};
 
-use crate::printed::{end_line, push_count, push_field, push_int, push_refusal};
+use crate::printed::{end_line, push_count, push_field, push_int, push_number, push_refusal};
 use entry_session::Ending;
 use jute_core::Memory;
 use payload_seal::Flaw;
 use reply_rewrite::{Cause, Finding};
 use std::alloc::Global;
+use store_side::StoreEnding;
 use watch_rewrite::EventFlaw;
 
 fn push_event_flaw(alloc: Global, into: &mut String, flaw: EventFlaw) -> Result<(), Memory>
@@ -59,6 +60,46 @@ pub fn push_session(alloc: Global, into: &mut String, ending: Option<Ending>) ->
 {
     match ending {
         Some(ending) => push_ending(alloc, into, ending)?,
+        None => push_field(into, "open", "")?,
+    }
+    Ok(())
+}
+
+// Appends why the store's side of a connection is over.
+fn push_over(alloc: Global, into: &mut String, ending: StoreEnding) -> Result<(), Memory>
+    ensures { OnOk result (string_bytes into.new ≡ string_bytes into.old ++ over_text ending) }
+{
+    match ending {
+        StoreEnding::Malformed(refusal) => push_refusal(alloc, into, "malformed ", refusal)?,
+        StoreEnding::TooLong { length } => push_int(alloc, into, "too-long ", length)?,
+        StoreEnding::AheadOfUs { seen, last } => {
+            push_number(alloc, into, "ahead ", seen)?;
+            push_number(alloc, into, " ", last)?;
+        }
+        StoreEnding::Expired { session } => push_number(alloc, into, "expired ", session)?,
+        StoreEnding::Moved { session } => push_number(alloc, into, "moved ", session)?,
+        StoreEnding::SessionClosed => push_field(into, "session-closed", "")?,
+        StoreEnding::Lost => push_field(into, "lost", "")?,
+        StoreEnding::JournalFull => push_field(into, "journal-full", "")?,
+        StoreEnding::AnswerTooLong { length } => {
+            push_count(alloc, into, "answer-too-long ", length)?
+        }
+        StoreEnding::NumbersUsed => push_field(into, "numbers-used", "")?,
+        StoreEnding::Memory => push_field(into, "memory", "")?,
+    }
+    Ok(())
+}
+
+/// Appends why the store's side of a connection is over, if it is.
+pub fn push_store(
+    alloc: Global,
+    into: &mut String,
+    ending: Option<StoreEnding>,
+) -> Result<(), Memory>
+    ensures { OnOk result (string_bytes into.new ≡ string_bytes into.old ++ store_text ending) }
+{
+    match ending {
+        Some(ending) => push_over(alloc, into, ending)?,
         None => push_field(into, "open", "")?,
     }
     Ok(())

@@ -25,7 +25,7 @@ mod words;
 pub use files::{FileFault, Files, MemoryFiles, NamedFile, RealFiles};
 pub use hostile_script::{HostileEvent, HostileEvents, read_hostile_script};
 pub use lines::NotScript;
-pub use script::{Event, Events, Said, read_script, said_of};
+pub use script::{Event, Events, read_script};
 pub use show::{Ending, Frame, one_show, show_frames};
 pub use sinks::{Failed, MemorySink, Sink, StdSink};
 pub use stops::Status;

@@ -2,7 +2,7 @@
 
 ghost use Rattle.std.specs.Prelude.{◌≡◌, ◌++◌, IfOk, OnOk, string_bytes};
 ghost use Rattle.std.specs.Fmt.{decimal, signed_decimal};
-ghost use Rattle.replay_cli.specs.Printed.{line, bytes_text, connection_text, field, line_feed, entry_text, lost_text, expire_text, entries_text, order_text};
+ghost use Rattle.replay_cli.specs.Printed.{line, bytes_text, field, line_feed, entry_text, lost_text, expire_text, entries_text, order_text};
 ghost use Rattle.replay_cli.specs.Reasons.{reason_name, refusal_text};
 
 use jute_core::{Memory, Reason, Refusal};
@@ -29,30 +29,6 @@ pub fn push_line(into: &mut String, word: &str, value: &str) -> Result<(), Memor
     into.push_str(word)?;
     into.push_str(value)?;
     into.push_str("\n")?;
-    Ok(())
-}
-
-/// Appends what is printed of a connection.
-pub fn push_connection(
-    alloc: Global,
-    into: &mut String,
-    number: u32,
-    ending: &str,
-    store: &str,
-    received: &[u8],
-    handed: &[u8],
-) -> Result<(), Memory>
-    ensures { OnOk result
-        (string_bytes into.new ≡ string_bytes into.old ++ connection_text number ending.now store.now received.now handed.now) }
-{
-    let number = number.to_string(alloc)?;
-    let received = bytes_text(alloc, received)?;
-    let handed = bytes_text(alloc, handed)?;
-    push_line(into, "connection ", number.as_str())?;
-    push_line(into, "ending ", ending)?;
-    push_line(into, "store ", store)?;
-    push_line(into, "received ", received.as_str())?;
-    push_line(into, "handed ", handed.as_str())?;
     Ok(())
 }
 

@@ -1,12 +1,11 @@
 //! Replay scripts: their events, and the reader of their grammar.
 
 ghost use Rattle.std.specs.Prelude.{◌≡◌, ◌≢◌, List, ℕ, ℤ, [], ◌∷◌, ◌++◌, ◌-◌, ◌^◌, ◌<◌, ◌≤◌, IfOk, IfErr, IfSome, IfNone, IsTrue, false, vec_len};
-ghost use Rattle.std.specs.List.{list_all};
 ghost use Rattle.std.specs.Fmt.{decimal};
 ghost use Rattle.replay_cli.specs.declared.script.Event.{Event};
 ghost use Rattle.replay_cli.specs.Lines.{spaced};
-ghost use Rattle.replay_cli.specs.Script.{event_text, IsOpen, IsCount, MayStand, opened_by, IsScript, IsFirstBadLine, opened, sent, drained, is_plain};
-ghost use Rattle.replay_cli.specs.Reading.{TakesBy, RefusesBy, IsFaultOf, IsCounted, IsEvent, Adds};
+ghost use Rattle.replay_cli.specs.Script.{event_text, IsOpen, IsCount, MayStand, opened_by, IsScript, IsFirstBadLine};
+ghost use Rattle.replay_cli.specs.Reading.{TakesBy, RefusesBy, IsFaultOf, IsCounted, IsEvent};
 
 use crate::lines::{NotScript, behind, first_line, hex_bytes, is_skipped, number_before};
 use crate::numbers::number_of;
@@ -342,72 +341,4 @@ pub fn read_script(alloc: Global, text: &[u8]) -> Result<Events, NotScript>
         above += 1;
     }
     Ok(Events::of(reader.events))
-}
-
-/// What the events of a script come to.
-#[derive(Drop)]
-pub struct Said {
-    /// How many connections are opened.
-    pub opened: usize,
-    /// The bytes of all lines `send`, in their order.
-    pub sent: Vec<u8>,
-    /// How many of them stand before the last `drain`.
-    pub drained: usize,
-}
-
-// Adds an event.
-fn add(said: &mut Said, event: &Event) -> Result<(), Memory>
-    requires { said.old.opened < 2 ^ 64 - 1 }
-    ensures { IfOk result (λ _. Adds said.old event.now said.new) }
-{
-    match event {
-        Event::Open => said.opened += 1,
-        Event::Send { bytes, .. } => said.sent.extend_from_slice(bytes.as_slice())?,
-        Event::Drain => said.drained = said.sent.len(),
-        Event::Up { .. } => {}
-        Event::Down { .. } => {}
-        Event::Cut { .. } => {}
-        Event::Time { .. } => {}
-        Event::Tick => {}
-    }
-    Ok(())
-}
-
-/// What the events come to. Linear in the bytes that they hold.
-pub fn said_of(alloc: Global, events: &[Event]) -> Result<Said, Memory>
-    ensures said { IfOk result (λ said. (said.opened ≡ opened events.now)
-        × (said.sent.items ≡ sent events.now) × (said.drained ≡ drained events.now)) }
-    ensures within { IfOk result (λ said. said.drained ≤ vec_len said.sent) }
-{
-    let mut said = Said {
-        opened: 0,
-        sent: Vec::new(alloc),
-        drained: 0,
-    };
-    for event in events {
-        add(&mut said, event)?;
-    }
-    Ok(said)
-}
-
-fn is_plain(event: &Event) -> bool
-    ensures { result ≡ is_plain event.now }
-{
-    match event {
-        Event::Open => true,
-        Event::Send { .. } => true,
-        Event::Drain => true,
-        Event::Up { .. } => false,
-        Event::Down { .. } => false,
-        Event::Cut { .. } => false,
-        Event::Time { .. } => false,
-        Event::Tick => false,
-    }
-}
-
-/// Whether all events are lines `open`, `send` and `drain`.
-pub fn are_plain(events: &[Event]) -> bool
-    ensures { result ≡ list_all is_plain events.now }
-{
-    events.iter().all(|event| is_plain(event))
 }

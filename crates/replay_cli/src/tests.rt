@@ -5,6 +5,8 @@ use std::test::*;
 
 const OPENED: &[u8] = b"order 0\nconnection 1\nending open\nstore open\nreceived -\nhanded -\n";
 
+const CUT: &[u8] = b"order 0\nconnection 1\nending client-end\nstore lost\nreceived -\nhanded -\n";
+
 fn words(alloc: Global, of: &[&str]) -> Result<Vec<String>, AllocError> {
     let mut words = Vec::new(alloc);
     for word in of {
@@ -71,6 +73,14 @@ fn scripts_that_send_nothing(rt: HostRuntime) -> Result<(), Fail> {
         (b"open".as_slice(), OPENED),
         (b"# a comment\n\nopen\ndrain\n".as_slice(), OPENED),
         (b"drain\nopen\n#\n".as_slice(), OPENED),
+        (b"open\nup 1 4294967295 0\n".as_slice(), OPENED),
+        (b"open\ndown 1 7\n".as_slice(), OPENED),
+        (b"open\ncut 1\n".as_slice(), CUT),
+        (
+            b"time 4611686018427387903\n".as_slice(),
+            b"order 0\n".as_slice(),
+        ),
+        (b"tick\n".as_slice(), b"order 0\n".as_slice()),
     ] {
         let ran = replayed(alloc, script, &[], &[], &[])?;
         assert!(rt; ran.status == Status::Done);
@@ -159,18 +169,6 @@ fn what_is_not_built(rt: HostRuntime) -> Result<(), Fail> {
     let stress = ran(alloc, &["stress", "18446744073709551615", "64", "0"], 64)?;
     assert!(rt; stress.status == Status::NotBuilt);
     assert_eq!(rt; stress.err.taken(), b"not built\n".as_slice());
-    for script in [
-        b"open\nopen\n".as_slice(),
-        b"open\nup 1 4294967295 0\n".as_slice(),
-        b"open\ndown 1 7\n".as_slice(),
-        b"open\ncut 1\n".as_slice(),
-        b"time 4611686018427387903\n".as_slice(),
-        b"tick\n".as_slice(),
-    ] {
-        let ran = replayed(alloc, script, &[], &[], &[])?;
-        assert!(rt; ran.status == Status::NotBuilt);
-        assert_eq!(rt; ran.err.taken(), b"not built\n".as_slice());
-    }
     Ok(())
 }
 

@@ -4,7 +4,7 @@ ghost use Rattle.std.specs.Prelude.{◌≡◌, ◌≢◌, ℕ, ◌≤◌, ◌⊎
 ghost use Rattle.replay_cli.specs.Printed.{line};
 ghost use Rattle.jute_core.specs.Faults.{Rose, Wrote, WroteFront};
 ghost use Rattle.replay_cli.specs.Words.{Fits, ReadsFiles, IsUnbuilt};
-ghost use Rattle.replay_cli.specs.Run.{IsTooLong, IsShownText, Prints, HasLong, HasBadKey, HasBadLine, StopsAtFile, StopsAtKey, StopsAtLine, IsNotBuilt};
+ghost use Rattle.replay_cli.specs.Run.{IsTooLong, IsShownText, Prints, HasLong, HasBadKey, HasBadLine, StopsAtFile, StopsAtKey, StopsAtLine};
 ghost use Rattle.replay_cli.specs.Sinks.{ReportsFault, FailsToReport};
 ghost use Rattle.replay_cli.specs.Stops.{Because, BecauseOfFile, status_of, complaint_of, unread_line, too_long_line, bad_key_line, bad_script_line, IsUnread, IsLine, Complains};
 
@@ -48,7 +48,7 @@ fn outcome<'a, F: Files>(
         → ⊥) (λ name. IsUnread words.now (F.reads files.old) (F.failed files.new) name
         × Rose (F.faults files.old) (F.faults files.new))
         (HasLong words.now (F.told files.old)) (HasBadKey words.now (F.told files.old))
-        (HasBadLine words.now (F.told files.old)) (IsNotBuilt words.now (F.told files.old))) }
+        (HasBadLine words.now (F.told files.old)) (IsUnbuilt words.now)) }
     ensures later { F.faults files.old ≤ F.faults files.new }
     ensures unread { (ReadsFiles words.now → ⊥) → files.new ≡ files.old }
 {
@@ -182,8 +182,8 @@ pub fn run<F: Files, K: Sink, E: Sink>(
     ensures bad_script { StopsAtLine words.now (F.told files.old)
         → (result ≡ Status.ScriptMalformed) ⊎ (result ≡ Status.ReadFault)
         ⊎ (result ≡ Status.WriteFault) ⊎ (result ≡ Status.Memory) }
-    // Another command, or a replay whose files are not of the form that is built.
-    ensures not_built { result ≡ Status.NotBuilt → IsNotBuilt words.now (F.told files.old) }
+    // A command that is not built.
+    ensures not_built { result ≡ Status.NotBuilt → IsUnbuilt words.now }
     ensures unbuilt { IsUnbuilt words.now → (result ≡ Status.NotBuilt)
         ⊎ (result ≡ Status.WriteFault) ⊎ (result ≡ Status.Memory) }
     // Only a replay, a hostile and a show read files.
@@ -210,7 +210,6 @@ pub fn run<F: Files, K: Sink, E: Sink>(
     ensures complains { Complains words.now result (E.taken err.old) (E.taken err.new) }
     // Where no cause holds and nothing fails, it is done but for memory.
     ensures complete { ReadsFiles words.now
-        → (IsNotBuilt words.now (F.told files.old) → ⊥)
         → ((name : List ℕ) → HasLong words.now (F.told files.old) name → ⊥)
         → ((size : ℕ) → HasBadKey words.now (F.told files.old) size → ⊥)
         → ((number : ℕ) → HasBadLine words.now (F.told files.old) number → ⊥)

@@ -1,7 +1,5 @@
-pub mod Veiled
-pub mod FirstForm
-pub mod FirstOrder
-pub mod Headline
-pub mod Stages
-pub mod Prefixes
-pub mod Taking
+pub mod Setups
+pub mod Moments
+pub mod Steps
+pub mod Standing
+pub mod Laws

@@ -1,22 +1,21 @@
-//! Sessions over a store, and what their clients receive.
+//! Clients with their sessions, over one store.
 //!
-//! So far there is one connection, which connects, asks for the root, pings and closes its session: `first_run` frames what
-//! the client sent, hands it to a store, and hands the store's answers down. Its contract is the record `Headline` of
-//! `specs/Headline.antt`, which says that the client receives what the plain machine sends it over the order in which the
-//! store took its requests. The orders, what the machine sends over them and how they are filled are defined in `store_side`
-//! (`Orders`, `Out`, `Fill`); the machine is that of `tree_state` (`Step`), and what a client's bytes spell is said in
-//! `zk_messages` (`Sent`).
+//! A [`World`] joins each client to the store through a session of `entry_session`; where bytes are on the way it moves them as it is
+//! told. Each of its calls says, of every moment at which it stood, at which one it stands then (`specs/Steps.antt`). At each moment
+//! the law over sessions holds of it (`specs/Laws.antt`, `session_law`): every client received the first of what the plain machine
+//! sends it over the order in which the store took the requests, and what was handed to the store is that, with every name and every
+//! payload sealed. It holds over every store that follows the machine with the names of a counter enclave under the same keys.
 //!
-//! The crate stands on `store_side` for entries and the writing of messages, on `tree_state` for the machine, on `zk_messages` for
-//! requests and replies, on `zk_records` for the connect records, and on `zk_path` and `jute_core`. Read `first_run` first, then `Headline`.
+//! Read `World` first, then `specs/Moments.antt` and `specs/Steps.antt`.
 #![tactic(auto)]
 
-mod form;
-mod frames;
-mod runs;
+mod amount;
+mod clients;
+mod connection;
+mod laws;
+mod moving;
+mod setup;
+mod world;
 
-pub use form::NotFirst;
-pub use runs::{FirstRun, first_run};
-
-#[cfg(test)]
-mod tests;
+pub use laws::{holds_at_each, leaves_nothing, spell_items};
+pub use world::World;

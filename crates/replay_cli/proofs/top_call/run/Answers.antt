@@ -21,5 +21,5 @@ pub returns-in-Err-clause-complains : goal.returns-in-Err-clause-complains
 returns-in-Err-clause-complains g c = complains _ c.args.words.now (g.F.Files.told c.args.files.now) _ _ _ _ _ _ c.in-Err.ensures.err c.complain.ensures.status c.complain.ensures.stopped c.complain.ensures.memory
 
 pub returns-in-Err-clause-complete : goal.returns-in-Err-clause-complete
-returns-in-Err-clause-complete g c = λ reads built long key script read_well out_well err_well.
-    completes _ c.args.words.now (g.F.Files.told c.args.files.now) _ _ _ _ _ c.in-Err.ensures.err c.complain.ensures.status c.complain.ensures.fault reads built long key script read_well err_well
+returns-in-Err-clause-complete g c = λ reads long key script read_well out_well err_well.
+    completes _ c.args.words.now (g.F.Files.told c.args.files.now) _ _ _ _ _ c.in-Err.ensures.err c.complain.ensures.status c.complain.ensures.fault reads long key script read_well err_well

@@ -1,7 +1,7 @@
 use Rattle.std.proofs.Common.{ap, sym, ◌∙◌}
 use Rattle.replay_cli.specs.Script.{opened, opened_by}
 use Rattle.replay_cli.proofs.GrammarLemmas.{opened_small}
-use Rattle.replay_cli.proofs.SaidLemmas.{counted_more}
+use Rattle.replay_cli.proofs.ReadingLemmas.{counted_more}
 use Rattle.replay_cli.proofs.script.Reader.push.Goals as goal
 
 pub returns : goal.returns

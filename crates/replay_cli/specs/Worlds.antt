@@ -1,0 +1,97 @@
+-- What the events of a replay do to a world, and what is printed of it.
+use Rattle.std.specs.Prelude.{◌≡◌, ℕ, zero, suc, ◌+◌, List, [], ◌∷◌, ◌++◌, codes, replicate, Bool, true, false, Option}
+use Rattle.std.specs.Fmt.{decimal}
+use Rattle.payload_seal.specs.declared.keys.EntryKeys.{EntryKeys}
+use Rattle.counter_enclave.specs.Enclave.{IsSealedName}
+use Rattle.tree_state.specs.Trees.{IsNaming}
+use Rattle.store_side.specs.Past.{Past}
+use Rattle.store_side.specs.Follows.{IsSound}
+use Rattle.store_side.specs.declared.ending.StoreEnding.{StoreEnding}
+use Rattle.entry_session.specs.Sides.{bytes_of}
+use Rattle.entry_session.specs.declared.ending.Ending.{Ending}
+use Rattle.world_core.specs.declared.amount.Amount.TheVariants.{AtMost}
+use Rattle.world_core.specs.Moments.{Moment, opening}
+use Rattle.world_core.specs.Standing.{IsNew}
+use Rattle.world_core.specs.Steps.{Cut as CutOff, Down as GoDown, Drains, IsAllDrained, Sent, Ticks, Up as GoUp, added, timed}
+use Rattle.world_core.specs.Laws.{Holds}
+use Rattle.replay_cli.specs.Printed.{line, field, line_feed, bytes_text, order_text}
+use Rattle.replay_cli.specs.Endings.{session_text, store_text}
+use Rattle.replay_cli.specs.Script.{MayStand, opened_by}
+use Rattle.replay_cli.specs.declared.script.Event.{Event}
+use Rattle.replay_cli.specs.declared.script.Event.TheVariants.{Open, Send, Up, Down, Cut, Time, Tick, Drain}
+
+-- ---- what happens
+
+-- an event leads a world in boot 0 from one moment to another
+unfoldable pub Happens : EntryKeys → Event → Moment → Moment → Type 0
+Happens keys Open m n = n ≡ added m
+Happens keys (Send c bytes) m n = Sent c bytes m n
+Happens keys (Up c first second) m n = GoUp keys 0 c (AtMost first) (AtMost second) m n
+Happens keys (Down c limit) m n = GoDown keys 0 c (AtMost limit) m n
+Happens keys (Cut c) m n = CutOff c m n
+Happens keys (Time now) m n = n ≡ timed now m
+Happens keys Tick m n = Ticks m n
+Happens keys Drain m n = Drains keys 0 m n
+
+-- these events do, one after another
+unfoldable pub AllHappen : EntryKeys → List Event → Moment → Moment → Type 0
+AllHappen keys [] m n = n ≡ m
+AllHappen keys (event ∷ events) m n = (next : Moment) × Happens keys event m next × AllHappen keys events next n
+
+-- each event may stand where it does, where so many connections were opened above
+unfoldable pub MayFollow : ℕ → List Event → Type 0
+MayFollow opened [] = Unit {0}
+MayFollow opened (event ∷ events) = MayStand opened event × MayFollow (opened + opened_by event) events
+
+-- the last event is a drain
+unfoldable pub ends_in_drain : List Event → Bool
+ends_in_drain [] = false
+ends_in_drain (Drain ∷ []) = true
+ends_in_drain (event ∷ events) = ends_in_drain events
+
+-- The store of a replay before anything was done: a counter enclave under the same keys names its nodes, the key of its passwords is 16 zero
+-- bytes, and it has room for 1,000,000 entries.
+pub record IsFirstPast (keys : EntryKeys) (past : Past) : Type 0 where
+  pub new : IsNew past
+  pub sound : IsSound past
+  pub names : IsNaming (IsSealedName keys.names) past.naming
+  pub key : past.key ≡ replicate 16 0
+  pub limit : past.limit ≡ 1000000
+
+-- The headline. A replay of these events comes to this moment: they happened to it one after another; the law over sessions holds of its
+-- connections; and where the last event is a drain, nothing is left of a connection whose session goes on.
+pub record Replayed (keys : EntryKeys) (events : List Event) (m : Moment) : Type 0 where
+  pub first : Past
+  pub is_first : IsFirstPast keys first
+  pub happen : AllHappen keys events (opening first) m
+  pub holds : Holds keys 0 m
+  pub drained : ends_in_drain events ≡ true → IsAllDrained m
+
+-- ---- what is printed
+
+-- of a connection: its two endings, what its client received and what was handed to the store
+unfoldable pub connection_text : ℕ → Option Ending → Option StoreEnding → List ℕ → List ℕ → List ℕ
+connection_text number ending over received handed =
+    line (codes "connection ") (decimal number)
+    ++ field (codes "ending ") [] ++ session_text ending ++ line_feed
+    ++ field (codes "store ") [] ++ store_text over ++ line_feed
+    ++ line (codes "received ") (bytes_text received)
+    ++ line (codes "handed ") (bytes_text handed)
+
+abbrev pub link_text : Moment → ℕ → List ℕ
+link_text m c = connection_text c (m.links c).stand.ending (m.past.endings c) (bytes_of (m.links c).stand.down) (bytes_of (m.links c).stand.up)
+
+-- of so many connections, from this number on
+unfoldable pub links_text : Moment → ℕ → ℕ → List ℕ
+links_text m c zero = []
+links_text m c (suc n) = link_text m c ++ links_text m (c + 1) n
+
+-- of a world: its order, and its connections
+abbrev pub world_text : Moment → List ℕ
+world_text m = order_text m.past.order ++ links_text m 1 m.past.admitted
+
+-- the text is what these events print under keys
+pub record PrintsReplay (keys : EntryKeys) (events : List Event) (text : List ℕ) : Type 0 where
+  pub moment : Moment
+  pub replayed : Replayed keys events moment
+  pub text_is : text ≡ world_text moment
