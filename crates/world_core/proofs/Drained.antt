@@ -97,7 +97,7 @@ all_down k boot c s n d up on =
 
 -- ---- the others
 
-other_link : (c d : ℕ) (P : Spot → Spot → Type 0) (m n : Moment) → (c ≡ d → ⊥) → UnlessCut d P m n → n.links c ≡ m.links c
+pub other_link : (c d : ℕ) (P : Spot → Spot → Type 0) (m n : Moment) → (c ≡ d → ⊥) → UnlessCut d P m n → n.links c ≡ m.links c
 other_link c d P m n apart u = elim (cases_Bool (m.links d).cut) [
   | inl t ↦ ap (λ (x : Moment). x.links c) (u.cut t)
   | inr f ↦ let w = u.whole f in ap (λ (x : Moment). x.links c) w.2 ∙ at_other d c w.0.link m.links apart

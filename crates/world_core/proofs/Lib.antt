@@ -24,3 +24,4 @@ pub mod OneSpot
 pub mod SoundCalls
 pub mod KeptCalls
 pub mod Drained
+pub mod Complete

@@ -13,7 +13,7 @@ pub enum Amount {
 }
 
 impl Amount {
-    /// How many of so many bytes.
+    /// Returns how many of `there` bytes are moved.
     #[tactic(auto, unfolding(crate::specs::Steps::count_of))]
     pub(crate) fn of(self, there: usize) -> usize
         ensures { result ≡ count_of self there }

@@ -23,7 +23,7 @@ pub struct Clients {
     pub connections: Vec<Connection>,
 }
 
-/// Where a connection stands; they are numbered from 1. For 0 it is past every end.
+/// Returns where a connection stands in the list; they are numbered from 1. For 0 that is past every end.
 pub(crate) fn place(connection: u32) -> usize
     ensures { IsPlace connection result }
 {
@@ -31,7 +31,7 @@ pub(crate) fn place(connection: u32) -> usize
 }
 
 impl Clients {
-    /// No connection, at time 0. Takes no memory.
+    /// Makes a list of no connections, at time 0. Takes no memory.
     pub(crate) fn new(alloc: Global, keys: EntryKeys, boot: u32) -> Clients
         requires { boot < 2 ^ 24 }
         ensures { (past : Past) → past.admitted ≡ 0 → AreKept keys boot result (opening past) }
@@ -44,7 +44,7 @@ impl Clients {
         }
     }
 
-    /// A connection of this number comes, which is the next one.
+    /// Appends a connection of this number, which is the next one.
     pub(crate) fn add(&mut self, number: u32) -> Result<(), Memory>
         ensures { OnOk result ((k : PlainKeys) (boot : ℕ) (m : Moment) → AreKept k boot self.old m → number ≡ m.past.admitted + 1
             → m.links number ≡ fresh_link → m.past.pulled number ≡ [] → AreKept k boot self.new (added m)) }
@@ -54,14 +54,14 @@ impl Clients {
         Ok(())
     }
 
-    /// A connection.
+    /// Lends the connection of a number, `None` where there is none.
     pub(crate) fn get(&self, connection: u32) -> Option<&Connection>
         ensures { option_copied result ≡ connection_at self.now.connections.items connection }
     {
         self.connections.get(place(connection))
     }
 
-    /// How many connections there are.
+    /// Returns how many connections there are.
     pub(crate) fn count(&self) -> u32
         ensures { (k : PlainKeys) (boot : ℕ) (m : Moment) → AreKept k boot self.now m → result ≡ m.past.admitted }
     {

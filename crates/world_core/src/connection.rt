@@ -31,7 +31,7 @@ pub struct Connection {
     cut: bool,
 }
 
-// Whether a session goes on or has ended, but for want of memory.
+// Answers `Ok` where a session goes on or has ended, but `Memory` where it ended for want of memory.
 fn answered(answer: Result<(), Ending>) -> Result<(), Memory>
     ensures { OnOk result (answer ≡ Err Ending.Memory → ⊥) }
 {
@@ -41,7 +41,7 @@ fn answered(answer: Result<(), Ending>) -> Result<(), Memory>
     }
 }
 
-// The bytes from a place on; past the end there are none.
+// Lends the bytes from a place on; past the end there are none.
 fn behind(bytes: &[u8], place: usize) -> &[u8]
     ensures { result.now ≡ drop place bytes.now }
 {
@@ -49,7 +49,7 @@ fn behind(bytes: &[u8], place: usize) -> &[u8]
     rest
 }
 
-// The bytes that are moved, and those that are left.
+// Splits off the bytes that are moved.
 fn parted(bytes: &[u8], amount: Amount) -> (&[u8], &[u8])
     ensures moved { result.0.now ≡ first_of amount bytes.now }
     ensures left { result.1.now ≡ left_of amount bytes.now }
@@ -58,7 +58,7 @@ fn parted(bytes: &[u8], amount: Amount) -> (&[u8], &[u8])
 }
 
 impl Connection {
-    /// A connection with this session, before anything came. Takes no memory.
+    /// Makes a connection with this session, before anything came. Takes no memory.
     pub(crate) fn new(alloc: Global, session: Session) -> Connection
         ensures { (k : PlainKeys) (boot c : ℕ) → session.going.keys ≡ k → session.going.ivs.boot ≡ boot → session.going.ivs.connection ≡ c
             → At session [] [] [] fresh → Keeps k boot c [] result fresh_link }
@@ -75,7 +75,7 @@ impl Connection {
         }
     }
 
-    /// The client sends bytes.
+    /// Appends to what the client sent.
     pub(crate) fn send(&mut self, bytes: &[u8]) -> Result<(), Memory>
         ensures { OnOk result ((k : PlainKeys) (boot c : ℕ) (pulled : List ℕ) (l : Link) → Keeps k boot c pulled self.old l
             → Keeps k boot c pulled self.new (record l { under_way = l.under_way ++ bytes.now })) }
@@ -84,7 +84,7 @@ impl Connection {
         Ok(())
     }
 
-    /// The first bytes under way come to the session, unless it has ended. Each byte is looked at once.
+    /// Hands the session the first bytes under way, unless it has ended. Looks at each byte once.
     pub(crate) fn hear_client(&mut self, amount: Amount) -> Result<(), Memory>
         ensures { OnOk result ((k : PlainKeys) (boot c : ℕ) (pulled : List ℕ) (l : Link) → Keeps k boot c pulled self.old l
             → (new : Link) × ComesIf l.stand.ending k boot c amount l new × Keeps k boot c pulled self.new new) }
@@ -98,7 +98,7 @@ impl Connection {
         Ok(())
     }
 
-    /// Bytes of the store come to the session, which goes on.
+    /// Hands bytes of the store to the session, which goes on.
     pub(crate) fn hear_store(&mut self, piece: &[u8]) -> Result<(), Memory>
         ensures { OnOk result ((k : PlainKeys) (boot c : ℕ) (pulled : List ℕ) (l : Link) → Keeps k boot c pulled self.old l → l.stand.ending ≡ None
             → (new : Link) × Hears k boot c (pulled ++ piece.now) l new × Keeps k boot c (pulled ++ piece.now) self.new new) }
@@ -109,7 +109,7 @@ impl Connection {
         )
     }
 
-    /// The first bytes that were handed up and that the store has not had.
+    /// Lends the first bytes that were handed up and that the store has not had.
     pub(crate) fn unfed(&self, amount: Amount) -> &[u8]
         ensures { (k : PlainKeys) (boot c : ℕ) (pulled : List ℕ) (l : Link) → Keeps k boot c pulled self.now l → result.now ≡ first_of amount l.unfed }
     {
@@ -117,7 +117,7 @@ impl Connection {
         piece
     }
 
-    /// The store has had these bytes.
+    /// Counts these bytes as fed to the store.
     pub(crate) fn deliver(&mut self, amount: Amount)
         ensures { (k : PlainKeys) (boot c : ℕ) (pulled : List ℕ) (l : Link) → Keeps k boot c pulled self.old l → Keeps k boot c pulled self.new (with_fed amount l) }
     {
@@ -125,7 +125,7 @@ impl Connection {
         self.fed = self.handed.len() - left.len();
     }
 
-    /// Whether the session has ended and all that it handed up was delivered.
+    /// Answers whether the session has ended and all that it handed up was delivered.
     pub(crate) fn is_done(&self) -> bool
         ensures { (k : PlainKeys) (boot c : ℕ) (pulled : List ℕ) (l : Link) → Keeps k boot c pulled self.now l
             → IsTrue result ↔ ((l.stand.ending ≡ None → ⊥) × (l.unfed ≡ [])) }
@@ -133,7 +133,7 @@ impl Connection {
         self.session.ending().is_some() && self.fed == self.handed.len()
     }
 
-    /// The session ends, if it has not.
+    /// Ends the session, if it has not ended.
     pub(crate) fn end(&mut self, ending: Ending)
         requires { IsGivenEnding ending }
         ensures { (k : PlainKeys) (boot c : ℕ) (pulled : List ℕ) (l : Link) → Keeps k boot c pulled self.old l → Keeps k boot c pulled self.new (ended ending l) }
@@ -141,42 +141,42 @@ impl Connection {
         self.session.end(ending);
     }
 
-    /// The connection is cut.
+    /// Marks the connection as cut.
     pub(crate) fn cut(&mut self)
         ensures { (k : PlainKeys) (boot c : ℕ) (pulled : List ℕ) (l : Link) → Keeps k boot c pulled self.old l → Keeps k boot c pulled self.new (record l { cut = true }) }
     {
         self.cut = true;
     }
 
-    /// Whether it was cut.
+    /// Answers whether it was cut.
     pub(crate) fn was_cut(&self) -> bool
         ensures { result ≡ self.now.cut }
     {
         self.cut
     }
 
-    /// Why the session ended, if it has.
+    /// Returns why the session ended, if it has.
     pub(crate) fn ending(&self) -> Option<Ending>
         ensures { result ≡ self.now.session.ending }
     {
         self.session.ending()
     }
 
-    /// All that the client sent before a cut.
+    /// Lends all that the client sent before a cut.
     pub(crate) fn sent(&self) -> &[u8]
         ensures { result.now ≡ self.now.sent.items }
     {
         self.sent.as_slice()
     }
 
-    /// All that the client received.
+    /// Lends all that the client received.
     pub(crate) fn received(&self) -> &[u8]
         ensures { result.now ≡ self.now.received.items }
     {
         self.received.as_slice()
     }
 
-    /// All that the session handed up.
+    /// Lends all that the session handed up.
     pub(crate) fn handed(&self) -> &[u8]
         ensures { result.now ≡ self.now.handed.items }
     {

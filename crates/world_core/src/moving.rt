@@ -16,7 +16,7 @@ use jute_core::Memory;
 use std::alloc::Global;
 use store_side::{StoreEnding, StoreSide};
 
-// Whether a store took bytes, or is over, but for want of memory.
+// Answers `Ok` where a store took bytes or its side is over, but `Memory` where memory was wanting.
 fn took(answer: Result<(), StoreEnding>) -> Result<(), Memory>
     ensures { OnOk result (answer ≡ Err StoreEnding.Memory → ⊥) }
 {
@@ -26,7 +26,7 @@ fn took(answer: Result<(), StoreEnding>) -> Result<(), Memory>
     }
 }
 
-// The store is fed the first bytes that were handed up and that it has not had.
+// Feeds the store the first bytes that were handed up and that it has not had.
 fn feed<S: StoreSide>(
     store: &mut S,
     number: u32,
@@ -42,7 +42,7 @@ fn feed<S: StoreSide>(
     Ok(())
 }
 
-// Once its session has ended, and all that this handed up was delivered, the store loses the connection.
+// Has the store lose the connection, once its session has ended and all that this handed up was delivered.
 fn leave<S: StoreSide>(store: &mut S, number: u32, connection: &Connection)
     ensures { MovesSpot number (S.stands store.old) connection.now (S.stands store.new) connection.now (λ k boot old new. Leaves number old new) }
 {
@@ -51,7 +51,7 @@ fn leave<S: StoreSide>(store: &mut S, number: u32, connection: &Connection)
     }
 }
 
-/// Bytes go up: the first ones under way to the session, and the first ones that this handed up to the store.
+/// Moves bytes up: the first ones under way to the session, and the first ones that this handed up to the store.
 pub(crate) fn go_up<S: StoreSide>(
     store: &mut S,
     number: u32,
@@ -94,7 +94,7 @@ fn pull<S: StoreSide>(
     Ok(())
 }
 
-// Where nothing waits and the store's side is over, the session ends, if it has not.
+// Ends the session, if it has not ended, where nothing waits and the store's side is over.
 #[tactic(auto, unfolding(entry_session::specs::Runs::IsGivenEnding))]
 fn end_over<S: StoreSide>(store: &S, number: u32, connection: &mut Connection)
     ensures { (k : PlainKeys) (boot : ℕ) (s : Spot) → S.stands store.now s.past → IsAdmitted s.past number → s.past.written ≡ true
@@ -105,7 +105,7 @@ fn end_over<S: StoreSide>(store: &S, number: u32, connection: &mut Connection)
     }
 }
 
-// The first waiting bytes are pulled and go through the session, unless it has ended.
+// Pulls the first waiting bytes and hands them to the session, unless it has ended.
 fn bring<S: StoreSide>(
     alloc: Global,
     store: &mut S,
@@ -126,7 +126,7 @@ fn bring<S: StoreSide>(
     Ok(())
 }
 
-/// Bytes come down: the first ones that wait, through the session to the client.
+/// Moves bytes down: the first ones that wait, through the session to the client.
 pub(crate) fn go_down<S: StoreSide>(
     alloc: Global,
     store: &mut S,
@@ -141,7 +141,7 @@ pub(crate) fn go_down<S: StoreSide>(
     Ok(())
 }
 
-/// The connection is cut: its session ends, and the store loses it.
+/// Cuts the connection: ends its session, and has the store lose it.
 #[tactic(auto, unfolding(entry_session::specs::Runs::IsGivenEnding))]
 pub(crate) fn cut<S: StoreSide>(store: &mut S, number: u32, connection: &mut Connection)
     ensures { MovesSpot number (S.stands store.old) connection.old (S.stands store.new) connection.new (λ k boot old new. Cuts number old new) }

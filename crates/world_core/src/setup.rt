@@ -29,7 +29,7 @@ impl Model for Setup {
 }
 
 impl Setup {
-    /// These keys, and this boot.
+    /// Takes these keys and this boot.
     pub(crate) fn new(keys: EntryKeys, boot: u32) -> Setup
         requires { boot < 2 ^ 24 }
         ensures { result ≡ record { keys = keys; boot = boot } }
@@ -37,7 +37,7 @@ impl Setup {
         Setup { keys, boot }
     }
 
-    /// The session of a connection. Takes no memory.
+    /// Makes the session of a connection. Takes no memory.
     pub(crate) fn session(&self, alloc: Global, connection: u32) -> Session
         ensures keys { result.going.keys ≡ self.now.keys }
         ensures boot { result.going.ivs.boot ≡ self.now.boot }
@@ -66,14 +66,14 @@ impl Model for Clock {
 }
 
 impl Clock {
-    /// The time 0.
+    /// Returns the time 0.
     pub(crate) fn start() -> Clock
         ensures { result ≡ pos 0 }
     {
         Clock { milliseconds: 0 }
     }
 
-    /// This time.
+    /// Takes this time.
     pub(crate) fn at(milliseconds: i64) -> Clock
         requires { IsTime milliseconds }
         ensures { result ≡ milliseconds }
@@ -81,7 +81,7 @@ impl Clock {
         Clock { milliseconds }
     }
 
-    /// The time in milliseconds.
+    /// Returns the time in milliseconds.
     pub(crate) fn milliseconds(&self) -> i64
         ensures time { IsTime result }
         ensures same { result ≡ self.now }

@@ -25,8 +25,8 @@ use store_side::{Entry, Recorded, StoreEnding, StoreSide};
 
 /// Clients with their sessions, over one store.
 ///
-/// The connections are numbered from 1, as the store admits them. A call that names a number which was not added does nothing, and
-/// what is read of it is empty. After `Memory` a world is used no more.
+/// The connections are numbered from 1, as the store admits them, and a call names one that was added. After `Memory` a world is used
+/// no more.
 #[derive(Drop)]
 pub struct World<S: StoreSide> {
     store: S,
@@ -34,7 +34,7 @@ pub struct World<S: StoreSide> {
 }
 
 impl<S: StoreSide + Drop> World<S> {
-    /// A world without connections at time 0, over a store that has admitted no connection and has no entries. The boot is a number
+    /// Makes a world without connections at time 0, over a store that has admitted no connection and has no entries. The boot is a number
     /// that was not used with these keys before. Takes no memory.
     pub fn new(alloc: Global, keys: EntryKeys, boot: u32, store: S) -> World<S>
         requires { boot < 2 ^ 24 }
@@ -50,7 +50,7 @@ impl<S: StoreSide + Drop> World<S> {
         }
     }
 
-    /// Admits a connection, and answers its number.
+    /// Admits a connection, and answers its number; `Memory` also where the store's 4,294,967,295 numbers are used up.
     pub fn add(&mut self) -> Result<u32, Memory>
         ensures number { IfOk result (λ c. Moves (S.stands self.old.store) self.old.clients (S.stands self.new.store) self.new.clients
             (λ k boot m n. (c ≡ m.past.admitted + 1) × (n ≡ added m))) }
@@ -62,7 +62,7 @@ impl<S: StoreSide + Drop> World<S> {
         Ok(number)
     }
 
-    /// The client of a connection sends bytes, which are under way to its session then. After a cut nothing is sent.
+    /// Appends to what the client of a connection sent; these bytes are under way to its session then. After a cut nothing is sent.
     pub fn send(&mut self, connection: u32, bytes: &[u8]) -> Result<(), Memory>
         ensures { OnOk result (MovesOf connection (S.stands self.old.store) self.old.clients (S.stands self.new.store) self.new.clients
             (λ k boot m n. Sent connection bytes.now m n)) }
@@ -75,7 +75,7 @@ impl<S: StoreSide + Drop> World<S> {
         Ok(())
     }
 
-    // Bytes of a connection go up.
+    // Moves bytes of a connection up, unless it was cut.
     fn pass_up(&mut self, connection: u32, first: Amount, second: Amount) -> Result<(), Memory>
         ensures { OnOk result (MovesOf connection (S.stands self.old.store) self.old.clients (S.stands self.new.store) self.new.clients
             (λ k boot m n. Up k boot connection first second m n)) }
@@ -89,7 +89,7 @@ impl<S: StoreSide + Drop> World<S> {
         Ok(())
     }
 
-    // Bytes of a connection come down.
+    // Moves bytes of a connection down, unless it was cut.
     fn pass_down(&mut self, connection: u32, amount: Amount) -> Result<(), Memory>
         ensures { OnOk result (MovesOf connection (S.stands self.old.store) self.old.clients (S.stands self.new.store) self.new.clients
             (λ k boot m n. Down k boot connection amount m n)) }
@@ -153,7 +153,7 @@ impl<S: StoreSide + Drop> World<S> {
         Ok(())
     }
 
-    // All bytes of each connection go up, in order.
+    // Moves all bytes of each connection up, in order.
     fn drain_up(&mut self) -> Result<(), Memory>
         ensures { OnOk result (Moves (S.stands self.old.store) self.old.clients (S.stands self.new.store) self.new.clients
             (λ k boot m n. ForEach (λ c. Up k boot c PlainAmount.All PlainAmount.All) 1 m.past.admitted m n)) }
@@ -167,7 +167,7 @@ impl<S: StoreSide + Drop> World<S> {
         Ok(())
     }
 
-    // All bytes of each connection come down, in order.
+    // Moves all bytes of each connection down, in order.
     fn drain_down(&mut self) -> Result<(), Memory>
         ensures { OnOk result (Moves (S.stands self.old.store) self.old.clients (S.stands self.new.store) self.new.clients
             (λ k boot m n. ForEach (λ c. Down k boot c PlainAmount.All) 1 m.past.admitted m n)) }
@@ -190,14 +190,14 @@ impl<S: StoreSide + Drop> World<S> {
         Ok(())
     }
 
-    /// How many connections were added. Takes no memory, as all readers.
+    /// Returns how many connections were added. Takes no memory, as all readers.
     pub fn count(&self) -> u32
         ensures { (k : PlainKeys) (boot : ℕ) (m : Moment) → Stands (S.stands self.now.store) k boot self.now.clients m → result ≡ m.past.admitted }
     {
         self.clients.count()
     }
 
-    /// All that the client of a connection sent before a cut.
+    /// Lends all that the client of a connection sent before a cut.
     pub fn sent(&self, connection: u32) -> &[u8]
         ensures { Reads connection (S.stands self.now.store) self.now.clients (λ m. result.now ≡ sent_by (m.links connection)) }
     {
@@ -207,7 +207,7 @@ impl<S: StoreSide + Drop> World<S> {
         }
     }
 
-    /// All that the client of a connection received.
+    /// Lends all that the client of a connection received.
     pub fn received(&self, connection: u32) -> &[u8]
         ensures { Reads connection (S.stands self.now.store) self.now.clients (λ m. result.now ≡ bytes_of (m.links connection).stand.down) }
     {
@@ -217,7 +217,7 @@ impl<S: StoreSide + Drop> World<S> {
         }
     }
 
-    /// All that the session of a connection handed up.
+    /// Lends all that the session of a connection handed up.
     pub fn handed_up(&self, connection: u32) -> &[u8]
         ensures { Reads connection (S.stands self.now.store) self.now.clients (λ m. result.now ≡ bytes_of (m.links connection).stand.up) }
     {
@@ -227,21 +227,21 @@ impl<S: StoreSide + Drop> World<S> {
         }
     }
 
-    /// Why the session of a connection ended, if it has.
+    /// Returns why the session of a connection ended, if it has.
     pub fn ending(&self, connection: u32) -> Option<Ending>
         ensures { Reads connection (S.stands self.now.store) self.now.clients (λ m. result ≡ (m.links connection).stand.ending) }
     {
         self.clients.get(connection)?.ending()
     }
 
-    /// Why the store's side of a connection is over, if it is.
+    /// Returns why the store's side of a connection is over, if it is.
     pub fn store_ending(&self, connection: u32) -> Option<StoreEnding>
         ensures { Reads connection (S.stands self.now.store) self.now.clients (λ m. result ≡ m.past.endings connection) }
     {
         self.store.ending(connection)
     }
 
-    /// Whether a connection was cut.
+    /// Answers whether a connection was cut.
     pub fn was_cut(&self, connection: u32) -> bool
         ensures { Reads connection (S.stands self.now.store) self.now.clients (λ m. result ≡ (m.links connection).cut) }
     {
@@ -253,7 +253,7 @@ impl<S: StoreSide + Drop> World<S> {
 }
 
 impl<S: Recorded + Drop> World<S> {
-    /// The order in which the store took what it was sent.
+    /// Lends the order in which the store took what it was sent.
     pub fn order(&self) -> &[Entry]
         ensures { (k : PlainKeys) (boot : ℕ) (m : Moment) → Stands (S.stands self.now.store) k boot self.now.clients m → result.now ≡ m.past.order }
     {
