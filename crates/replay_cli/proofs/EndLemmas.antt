@@ -8,11 +8,10 @@ use Rattle.replay_cli.specs.declared.stops.Status.{Status}
 use Rattle.replay_cli.specs.declared.stops.Status.TheVariants.{Done, WriteFault, Memory}
 use Rattle.replay_cli.specs.Told.{Told}
 use Rattle.replay_cli.specs.Printed.{line}
-use Rattle.replay_cli.specs.Words.{Words, IsKeyed, IsFileOf, IsUnbuilt, ReadsFiles, Fits}
+use Rattle.replay_cli.specs.Words.{Words, IsKeyed, IsFileOf, Fits}
 use Rattle.replay_cli.specs.Sinks.{ReportsFault, FailsToReport}
 use Rattle.replay_cli.specs.Run.{HasLong, HasBadKey, HasBadLine}
 use Rattle.replay_cli.specs.Stops.{Because, status_of, complaint_of, IsUnread, IsLine, Complains}
-use Rattle.replay_cli.proofs.RunLemmas.{reading_built}
 
 unread_file : (words : Words) (read : ℕ) (failed : Option ℕ) (name : List ℕ) → IsUnread words read failed name → IsFileOf words name
 unread_file words read failed name (inl (keyed, inl key)) = inl (keyed, inl key.0)
@@ -29,19 +28,18 @@ line_keyed words told number (inl bad) = inl bad.0
 line_keyed words told number (inr bad) = inr bad.0
 
 stop_complains : (stop : Stop) (words : Words) (told : List ℕ → Told) (read : ℕ) (failed : Option ℕ) (R : Type 0) (before after : Option (List ℕ))
-    → Because stop (Fits words → ⊥) (λ name. IsUnread words read failed name × R) (HasLong words told) (HasBadKey words told) (HasBadLine words told) (IsUnbuilt words)
+    → Because stop (Fits words → ⊥) (λ name. IsUnread words read failed name × R) (HasLong words told) (HasBadKey words told) (HasBadLine words told)
     → Wrote before after (complaint_of stop) → Complains words (status_of stop) before after
 stop_complains stops.BadWords words told read failed R before after why wrote = wrote
 stop_complains (stops.Unread name) words told read failed R before after why wrote = (name.now, unread_file words read failed name.now why.0, wrote)
 stop_complains (stops.TooLong name) words told read failed R before after why wrote = (name.now, long_file words told name.now why, wrote)
 stop_complains (stops.KeyMalformed size) words told read failed R before after why wrote = (size, why.0, wrote)
 stop_complains (stops.ScriptMalformed number) words told read failed R before after why wrote = (number, line_keyed words told number why, wrote)
-stop_complains stops.NotBuilt words told read failed R before after why wrote = wrote
 stop_complains stops.Memory words told read failed R before after why wrote = wrote
 
 -- what stands on the standard error after a stop
 pub complains : (stop : Stop) (words : Words) (told : List ℕ → Told) (read : ℕ) (failed : Option ℕ) (R : Type 0) (result : Status) (before after : Option (List ℕ))
-    → Because stop (Fits words → ⊥) (λ name. IsUnread words read failed name × R) (HasLong words told) (HasBadKey words told) (HasBadLine words told) (IsUnbuilt words)
+    → Because stop (Fits words → ⊥) (λ name. IsUnread words read failed name × R) (HasLong words told) (HasBadKey words told) (HasBadLine words told)
     → (result ≡ status_of stop) ⊎ (result ≡ Memory) ⊎ (result ≡ WriteFault) → (result ≡ status_of stop → Wrote before after (complaint_of stop))
     → (result ≡ Memory → Wrote before after (line (codes "no memory") [])) → Complains words result before after
 complains stop words told read failed R result before after why (inl e) stopped memory =
@@ -50,35 +48,33 @@ complains stop words told read failed R result before after why (inr (inl m)) st
 complains stop words told read failed R result before after why (inr (inr w)) stopped memory = subst (λ (s : Status). Complains words s before after) (sym w) tt
 
 is_line : (stop : Stop) (words : Words) (told : List ℕ → Told) (read : ℕ) (failed : Option ℕ) (R : Type 0)
-    → Because stop (Fits words → ⊥) (λ name. IsUnread words read failed name × R) (HasLong words told) (HasBadKey words told) (HasBadLine words told) (IsUnbuilt words) → IsLine words (complaint_of stop)
+    → Because stop (Fits words → ⊥) (λ name. IsUnread words read failed name × R) (HasLong words told) (HasBadKey words told) (HasBadLine words told) → IsLine words (complaint_of stop)
 is_line stops.BadWords words told read failed R why = inl refl
-is_line (stops.Unread name) words told read failed R why = inr (inr (inr (inl (name.now, unread_file words read failed name.now why.0, inl refl))))
-is_line (stops.TooLong name) words told read failed R why = inr (inr (inr (inl (name.now, long_file words told name.now why, inr refl))))
-is_line (stops.KeyMalformed size) words told read failed R why = inr (inr (inr (inr (size, why.0, inl refl))))
-is_line (stops.ScriptMalformed number) words told read failed R why = inr (inr (inr (inr (number, line_keyed words told number why, inr refl))))
-is_line stops.NotBuilt words told read failed R why = inr (inl refl)
-is_line stops.Memory words told read failed R why = inr (inr (inl refl))
+is_line (stops.Unread name) words told read failed R why = inr (inr (inl (name.now, unread_file words read failed name.now why.0, inl refl)))
+is_line (stops.TooLong name) words told read failed R why = inr (inr (inl (name.now, long_file words told name.now why, inr refl)))
+is_line (stops.KeyMalformed size) words told read failed R why = inr (inr (inr (size, why.0, inl refl)))
+is_line (stops.ScriptMalformed number) words told read failed R why = inr (inr (inr (number, line_keyed words told number why, inr refl)))
+is_line stops.Memory words told read failed R why = inr (inl refl)
 
 -- a write that failed was one of a line of the command
 pub reports_line : (stop : Stop) (words : Words) (told : List ℕ → Told) (read : ℕ) (failed : Option ℕ) (R : Type 0) (faults later : ℕ) (before after : Option (List ℕ))
-    → Because stop (Fits words → ⊥) (λ name. IsUnread words read failed name × R) (HasLong words told) (HasBadKey words told) (HasBadLine words told) (IsUnbuilt words)
+    → Because stop (Fits words → ⊥) (λ name. IsUnread words read failed name × R) (HasLong words told) (HasBadKey words told) (HasBadLine words told)
     → (text : List ℕ) × ((text ≡ complaint_of stop) ⊎ (text ≡ line (codes "no memory") [])) × FailsToReport faults later before after text
     → ReportsFault faults later before after ⊎ ((text : List ℕ) × IsLine words text × FailsToReport faults later before after text)
 reports_line stop words told read failed R faults later before after why (text, inl e, fails) = inr (text, subst (IsLine words) (sym e) (is_line stop words told read failed R why), fails)
-reports_line stop words told read failed R faults later before after why (text, inr e, fails) = inr (text, subst (IsLine words) (sym e) (inr (inr (inl refl))), fails)
+reports_line stop words told read failed R faults later before after why (text, inr e, fails) = inr (text, subst (IsLine words) (sym e) (inr (inl refl)), fails)
 
 -- where nothing fails and no cause holds, only memory can be wanting
 pub completes : (stop : Stop) (words : Words) (told : List ℕ → Told) (read : ℕ) (failed : Option ℕ) (R W : Type 0) (result : Status)
-    → Because stop (Fits words → ⊥) (λ name. IsUnread words read failed name × R) (HasLong words told) (HasBadKey words told) (HasBadLine words told) (IsUnbuilt words)
-    → (result ≡ status_of stop) ⊎ (result ≡ Memory) ⊎ (result ≡ WriteFault) → (result ≡ WriteFault → W) → ReadsFiles words
+    → Because stop (Fits words → ⊥) (λ name. IsUnread words read failed name × R) (HasLong words told) (HasBadKey words told) (HasBadLine words told)
+    → (result ≡ status_of stop) ⊎ (result ≡ Memory) ⊎ (result ≡ WriteFault) → (result ≡ WriteFault → W) → Fits words
     → ((name : List ℕ) → HasLong words told name → ⊥) → ((size : ℕ) → HasBadKey words told size → ⊥) → ((number : ℕ) → HasBadLine words told number → ⊥) → (R → ⊥) → (W → ⊥)
     → (result ≡ Done) ⊎ (result ≡ Memory)
 completes stop words told read failed R W result why (inr (inl m)) fault reads long key script read_well write_well = inr m
 completes stop words told read failed R W result why (inr (inr w)) fault reads long key script read_well write_well = absurd (write_well (fault w))
-completes stops.BadWords words told read failed R W result why (inl e) fault reads long key script read_well write_well = absurd (why (inl reads))
+completes stops.BadWords words told read failed R W result why (inl e) fault reads long key script read_well write_well = absurd (why reads)
 completes (stops.Unread name) words told read failed R W result why (inl e) fault reads long key script read_well write_well = absurd (read_well why.1)
 completes (stops.TooLong name) words told read failed R W result why (inl e) fault reads long key script read_well write_well = absurd (long name.now why)
 completes (stops.KeyMalformed size) words told read failed R W result why (inl e) fault reads long key script read_well write_well = absurd (key size why)
 completes (stops.ScriptMalformed number) words told read failed R W result why (inl e) fault reads long key script read_well write_well = absurd (script number why)
-completes stops.NotBuilt words told read failed R W result why (inl e) fault reads long key script read_well write_well = absurd (reading_built words reads why)
 completes stops.Memory words told read failed R W result why (inl e) fault reads long key script read_well write_well = inr e

@@ -10,7 +10,7 @@ use Rattle.world_core.specs.Steps.{IsAllDrained}
 use Rattle.world_core.proofs.Drained.{leaves_nothing}
 use Rattle.replay_cli.specs.Lines.{SaysBy}
 use Rattle.replay_cli.specs.Script.{event_text, MayStand, opened, opened_by}
-use Rattle.replay_cli.specs.Worlds.{AllHappen, Happens, MayFollow, ends_in_drain}
+use Rattle.replay_cli.specs.Worlds.{AllHappen, Happens, MayFollow, MayHappen, ends_in_drain}
 use Rattle.replay_cli.proofs.Admitting.{all_admit}
 use Rattle.replay_cli.specs.declared.script.Event.{Event}
 use Rattle.replay_cli.specs.declared.script.Event.TheVariants.{Open, Send, Up, Down, Cut, Time, Tick, Drain}
@@ -25,20 +25,31 @@ unfolding AllHappen
 more_happen k [] event m n p all one = (p, subst (λ (x : Moment). Happens k event x p) all one, refl)
 more_happen k (first ∷ events) event m n p all one = (all.0, all.1, more_happen k events event all.0 n p all.2 one)
 
+-- what may stand in a script may happen
+may_happen : (count : ℕ) (event : Event) → MayStand count event → MayHappen count event
+may_happen count Open may = tt
+may_happen count (Send c bytes) may = may.0
+may_happen count (Up c first second) may = may.0
+may_happen count (Down c limit) may = may.0
+may_happen count (Cut c) may = may
+may_happen count (Time now) may = may
+may_happen count Tick may = tt
+may_happen count Drain may = tt
+
 -- the events that a script says may follow one another
 pub may_follow : (count : ℕ) (lines : List (List ℕ)) (events : List Event) → SaysBy event_text MayStand opened_by count lines events → MayFollow count events
 unfolding MayFollow
 may_follow count [] events says = subst (MayFollow count) (sym says) tt
 may_follow count (line ∷ more) events (inl skipped) = may_follow count more events skipped.1
 may_follow count (line ∷ more) events (inr (event, rest, is, text, may, says)) =
-    subst (MayFollow count) (sym is) (may, may_follow (count + opened_by event) more rest says)
+    subst (MayFollow count) (sym is) (may_happen count event may, may_follow (count + opened_by event) more rest says)
 
 -- each one may stand where it does
-pub may_stand : (count : ℕ) (front : List Event) (event : Event) (rest : List Event) → MayFollow count (front ++ event ∷ rest) → MayStand (count + opened front) event
+pub may_stand : (count : ℕ) (front : List Event) (event : Event) (rest : List Event) → MayFollow count (front ++ event ∷ rest) → MayHappen (count + opened front) event
 unfolding MayFollow
-may_stand count [] event rest may = subst (λ (n : ℕ). MayStand n event) (omega arith) may.0
+may_stand count [] event rest may = subst (λ (n : ℕ). MayHappen n event) (omega arith) may.0
 may_stand count (first ∷ front) event rest may =
-    subst (λ (n : ℕ). MayStand n event) (omega arith) (may_stand (count + opened_by first) front event rest may.1)
+    subst (λ (n : ℕ). MayHappen n event) (omega arith) (may_stand (count + opened_by first) front event rest may.1)
 
 ends_one : (event : Event) → ends_in_drain (event ∷ []) ≡ true → event ≡ Drain
 unfolding ends_in_drain
@@ -89,20 +100,20 @@ pub upto : (events : List Event) (i : ℕ) (event : Event) → i < length events
 upto events i event within is = take_more events i event within ∙ ap (λ (e : Event). take i events ++ e ∷ []) (sym is)
 
 -- an event of those that may follow one another may stand where it does
-pub may_at : (events : List Event) (i : ℕ) (event : Event) → i < length events → event ≡ get_or events i event → MayFollow 0 events → MayStand (0 + opened (take i events)) event
+pub may_at : (events : List Event) (i : ℕ) (event : Event) → i < length events → event ≡ get_or events i event → MayFollow 0 events → MayHappen (0 + opened (take i events)) event
 may_at events i event within is may =
     let cut : events ≡ take i events ++ event ∷ drop (i + 1) events
     = sym (take-append-drop (i + 1) events) ∙ ap (λ (l : List Event). l ++ drop (i + 1) events) (upto events i event within is)
     ∙ append_assoc (take i events) (event ∷ []) (drop (i + 1) events) in
     may_stand 0 (take i events) event (drop (i + 1) events) (subst (MayFollow 0) cut may)
 
-pub may_here : (keys : EntryKeys) (events : List Event) (event : Event) (m n : Moment) → m.past.admitted ≡ 0 → AllHappen keys events m n → MayStand (0 + opened events) event
-    → MayStand n.past.admitted event
+pub may_here : (keys : EntryKeys) (events : List Event) (event : Event) (m n : Moment) → m.past.admitted ≡ 0 → AllHappen keys events m n → MayHappen (0 + opened events) event
+    → MayHappen n.past.admitted event
 may_here keys events event m n zero all may =
     let count = all_admit keys events m n all in
     let same : 0 + opened events ≡ n.past.admitted = omega (arith, count, zero) in
-    subst (λ (x : ℕ). MayStand x event) same may
+    subst (λ (x : ℕ). MayHappen x event) same may
 
 -- a time of a script is one of a store
-pub fits_time : (opened : ℕ) (now : ℤ) → MayStand opened (Time now) → FitsSigned w64 now
+pub fits_time : (opened : ℕ) (now : ℤ) → MayHappen opened (Time now) → FitsSigned w64 now
 fits_time opened now may = let at : now ≡ pos may.0 = may.1 in let below = may.2 in subst (FitsSigned w64) (sym at) (omega (arith, ints, below))

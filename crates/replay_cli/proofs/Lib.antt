@@ -14,7 +14,12 @@ pub mod ShowLemmas
 pub mod OneShow
 pub mod FindingLemmas
 pub mod PlayLemmas
+pub mod Keeping
 pub mod Admitting
+pub mod Given
+pub mod WorkloadLemmas
+pub mod TallyLemmas
+pub mod StressLemmas
 pub mod Happenings
 pub mod Links
 pub mod Playing

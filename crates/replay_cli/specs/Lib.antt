@@ -16,6 +16,8 @@ pub mod Showing
 pub mod Endings
 pub mod Hostile
 pub mod Worlds
+pub mod Workload
+pub mod Summary
 pub mod Playing
 pub mod Run
 pub mod Stops

@@ -3,10 +3,11 @@ use Rattle.std.specs.Prelude.{◌≡◌, ℕ, ◌<◌, ◌≤◌, ◌⊎◌, Lis
 use Rattle.payload_seal.specs.Keys.{IsKeyFileSize}
 use Rattle.payload_seal.specs.declared.keys.EntryKeys.{EntryKeys}
 use Rattle.replay_cli.specs.Told.{Told, untold, missing, holds, Agrees}
-use Rattle.replay_cli.specs.Words.{Words, word, IsReplay, IsHostile, IsShow, IsKeyed, ReadsFiles}
+use Rattle.replay_cli.specs.Words.{Words, word, IsReplay, IsHostile, IsShow, IsStress, IsKeyed, ReadsFiles}
 use Rattle.replay_cli.specs.Show.{IsShown}
 use Rattle.replay_cli.specs.Script.{IsScript, IsFirstBadLine}
 use Rattle.replay_cli.specs.Worlds.{PrintsReplay}
+use Rattle.replay_cli.specs.Summary.{PrintsStress}
 use Rattle.replay_cli.specs.HostileScript.{IsHostileScript, IsFirstBadHostileLine}
 use Rattle.replay_cli.specs.Hostile.{IsKeysOf, PrintsHostile}
 use Rattle.replay_cli.specs.declared.hostile_script.HostileEvent.{HostileEvent}
@@ -75,6 +76,7 @@ abbrev pub Prints : Words → (List ℕ → Told) → List ℕ → Type 0
 Prints words told text = (IsReplay words × IsReplayText (told (word words 1)) (told (word words 2)) text)
     ⊎ (IsHostile words × IsHostileText (told (word words 1)) (told (word words 2)) text)
     ⊎ (IsShow words × IsShownText (told (word words 1)) text)
+    ⊎ ((seed sessions steps : ℕ) × IsStress words seed sessions steps × PrintsStress seed sessions steps text)
 
 -- a file of a key and a script is too long: the key, or the script behind what may be a key
 abbrev pub IsLongOf : (List ℕ → Told) → List ℕ → List ℕ → List ℕ → Type 0

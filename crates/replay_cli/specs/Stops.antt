@@ -5,7 +5,7 @@ use Rattle.jute_core.specs.Faults.{Wrote}
 use Rattle.replay_cli.specs.declared.stops.Stop.{Stop}
 use Rattle.replay_cli.specs.declared.stops.Stop.TheVariants as stops
 use Rattle.replay_cli.specs.declared.stops.Status.{Status}
-use Rattle.replay_cli.specs.declared.stops.Status.TheVariants.{Done, BadWords, ReadFault, KeyMalformed, ScriptMalformed, InputTooLong, NotBuilt, WriteFault, Memory}
+use Rattle.replay_cli.specs.declared.stops.Status.TheVariants.{Done, BadWords, ReadFault, KeyMalformed, ScriptMalformed, InputTooLong, WriteFault, Memory}
 use Rattle.replay_cli.specs.Printed.{line, field}
 use Rattle.replay_cli.specs.Counts.{next}
 use Rattle.replay_cli.specs.Words.{Words, word, IsKeyed, IsShow, IsFileOf}
@@ -19,26 +19,24 @@ exit_status ScriptMalformed = 5
 exit_status WriteFault = 6
 exit_status Memory = 7
 exit_status InputTooLong = 8
-exit_status NotBuilt = 11
 
 -- A cause for each stop but want of memory: a file that was not read, or is too long, is told by its name, a malformed key by its size,
 -- and a malformed script by the number of its first bad line.
-abbrev pub Because : Stop → Type 0 → (List ℕ → Type 0) → (List ℕ → Type 0) → (ℕ → Type 0) → (ℕ → Type 0) → Type 0 → Type 0
-Because stops.BadWords bad unread long key script unbuilt = bad
-Because (stops.Unread name) bad unread long key script unbuilt = unread name.now
-Because (stops.TooLong name) bad unread long key script unbuilt = long name.now
-Because (stops.KeyMalformed size) bad unread long key script unbuilt = key size
-Because (stops.ScriptMalformed number) bad unread long key script unbuilt = script number
-Because stops.NotBuilt bad unread long key script unbuilt = unbuilt
-Because stops.Memory bad unread long key script unbuilt = Unit {0}
+abbrev pub Because : Stop → Type 0 → (List ℕ → Type 0) → (List ℕ → Type 0) → (ℕ → Type 0) → (ℕ → Type 0) → Type 0
+Because stops.BadWords bad unread long key script = bad
+Because (stops.Unread name) bad unread long key script = unread name.now
+Because (stops.TooLong name) bad unread long key script = long name.now
+Because (stops.KeyMalformed size) bad unread long key script = key size
+Because (stops.ScriptMalformed number) bad unread long key script = script number
+Because stops.Memory bad unread long key script = Unit {0}
 
 -- of a file that is read
 abbrev pub BecauseOfFile : Stop → (List ℕ → Type 0) → (List ℕ → Type 0) → Type 0
-BecauseOfFile stop unread long = Because stop ⊥ unread long (λ size. ⊥) (λ number. ⊥) ⊥
+BecauseOfFile stop unread long = Because stop ⊥ unread long (λ size. ⊥) (λ number. ⊥)
 
 -- of a script that was read
-abbrev pub BecauseOfScript : Stop → (ℕ → Type 0) → Type 0 → Type 0
-BecauseOfScript stop script unbuilt = Because stop ⊥ (λ name. ⊥) (λ name. ⊥) (λ size. ⊥) script unbuilt
+abbrev pub BecauseOfScript : Stop → (ℕ → Type 0) → Type 0
+BecauseOfScript stop script = Because stop ⊥ (λ name. ⊥) (λ name. ⊥) (λ size. ⊥) script
 
 abbrev pub status_of : Stop → Status
 status_of stops.BadWords = BadWords
@@ -46,7 +44,6 @@ status_of (stops.Unread name) = ReadFault
 status_of (stops.TooLong name) = InputTooLong
 status_of (stops.KeyMalformed size) = KeyMalformed
 status_of (stops.ScriptMalformed number) = ScriptMalformed
-status_of stops.NotBuilt = NotBuilt
 status_of stops.Memory = Memory
 
 abbrev pub unread_line : List ℕ → List ℕ
@@ -68,7 +65,6 @@ complaint_of (stops.Unread name) = unread_line name.now
 complaint_of (stops.TooLong name) = too_long_line name.now
 complaint_of (stops.KeyMalformed size) = bad_key_line size
 complaint_of (stops.ScriptMalformed number) = bad_script_line number
-complaint_of stops.NotBuilt = line (codes "not built") []
 complaint_of stops.Memory = line (codes "no memory") []
 
 -- The file whose read failed last, of a key and a script: the key, of which the read has this number, or the script, whose read is the
@@ -84,7 +80,6 @@ IsUnread words read failed name = (IsKeyed words × IsUnreadOf (word words 1) (w
 -- the text is the line of a status on the standard error, of a file of the command where it names one
 abbrev pub IsLine : Words → List ℕ → Type 0
 IsLine words text = (text ≡ line (codes "bad words") [])
-    ⊎ (text ≡ line (codes "not built") [])
     ⊎ (text ≡ line (codes "no memory") [])
     ⊎ ((name : List ℕ) × IsFileOf words name × ((text ≡ unread_line name) ⊎ (text ≡ too_long_line name)))
     ⊎ ((n : ℕ) × IsKeyed words × ((text ≡ bad_key_line n) ⊎ (text ≡ bad_script_line n)))
@@ -97,6 +92,5 @@ Complains words ReadFault before after = (name : List ℕ) × IsFileOf words nam
 Complains words InputTooLong before after = (name : List ℕ) × IsFileOf words name × Wrote before after (too_long_line name)
 Complains words KeyMalformed before after = (size : ℕ) × IsKeyed words × Wrote before after (bad_key_line size)
 Complains words ScriptMalformed before after = (number : ℕ) × IsKeyed words × Wrote before after (bad_script_line number)
-Complains words NotBuilt before after = Wrote before after (line (codes "not built") [])
 Complains words Memory before after = Wrote before after (line (codes "no memory") [])
 Complains words WriteFault before after = Unit {0}

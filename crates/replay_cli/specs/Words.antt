@@ -1,7 +1,7 @@
 -- The words of a command line.
-use Rattle.std.specs.Prelude.{◌≡◌, ◌⊎◌, ℕ, ◌-◌, ◌^◌, List, [], length, map, codes, string_bytes, String, slice_index_or}
+use Rattle.std.specs.Prelude.{◌≡◌, ◌⊎◌, ◌≤◌, ℕ, List, [], length, map, codes, string_bytes, String, slice_index_or}
+use Rattle.std.specs.Fmt.{decimal}
 use Rattle.std.specs.Global.{Global}
-use Rattle.replay_cli.specs.Numbers.{IsNumber}
 
 abbrev pub Words : Type 0
 Words = List (String Global)
@@ -28,14 +28,23 @@ IsHostile words = IsCalled words 3 (codes "hostile")
 abbrev pub IsShow : Words → Type 0
 IsShow words = IsCalled words 2 (codes "show")
 
--- stress SEED SESSIONS STEPS
-abbrev pub IsStress : Words → Type 0
-IsStress words = IsCalled words 4 (codes "stress")
-    × IsNumber 0 (2 ^ 64 - 1) (word words 1) × IsNumber 1 64 (word words 2) × IsNumber 0 100000 (word words 3)
+-- SEED, SESSIONS and STEPS in decimal digits, without a sign or a leading zero
+pub record AreStressNumbers (words : Words) (seed sessions steps : ℕ) : Type 0 where
+  pub seed_is : word words 1 ≡ decimal seed
+  pub seed_most : seed ≤ 18446744073709551615
+  pub sessions_are : word words 2 ≡ decimal sessions
+  pub sessions_least : 1 ≤ sessions
+  pub sessions_most : sessions ≤ 64
+  pub steps_are : word words 3 ≡ decimal steps
+  pub steps_most : steps ≤ 100000
 
--- the command that is not built yet
-abbrev pub IsUnbuilt : Words → Type 0
-IsUnbuilt words = IsStress words
+-- stress SEED SESSIONS STEPS
+abbrev pub IsStress : Words → ℕ → ℕ → ℕ → Type 0
+IsStress words seed sessions steps = IsCalled words 4 (codes "stress") × AreStressNumbers words seed sessions steps
+
+-- with numbers that fit
+abbrev pub IsSomeStress : Words → Type 0
+IsSomeStress words = (seed sessions steps : ℕ) × IsStress words seed sessions steps
 
 -- the commands that read a key and a script
 abbrev pub IsKeyed : Words → Type 0
@@ -47,7 +56,7 @@ ReadsFiles words = IsKeyed words ⊎ IsShow words
 
 -- a row fits
 abbrev pub Fits : Words → Type 0
-Fits words = ReadsFiles words ⊎ IsUnbuilt words
+Fits words = ReadsFiles words ⊎ IsSomeStress words
 
 -- the name of a file that they read
 abbrev pub IsFileOf : Words → List ℕ → Type 0

@@ -1,5 +1,5 @@
 -- What the events of a replay do to a world, and what is printed of it.
-use Rattle.std.specs.Prelude.{◌≡◌, ℕ, zero, suc, ◌+◌, List, [], ◌∷◌, ◌++◌, codes, replicate, Bool, true, false, Option}
+use Rattle.std.specs.Prelude.{◌≡◌, ℕ, zero, suc, ◌+◌, List, [], ◌∷◌, ◌++◌, ◌==◌, codes, replicate, Bool, true, false, Option, None, if◌then◌else◌}
 use Rattle.std.specs.Fmt.{decimal}
 use Rattle.payload_seal.specs.declared.keys.EntryKeys.{EntryKeys}
 use Rattle.counter_enclave.specs.Enclave.{IsSealedName}
@@ -10,13 +10,13 @@ use Rattle.store_side.specs.declared.ending.StoreEnding.{StoreEnding}
 use Rattle.entry_session.specs.Sides.{bytes_of}
 use Rattle.entry_session.specs.declared.ending.Ending.{Ending}
 use Rattle.world_core.specs.declared.amount.Amount.TheVariants.{AtMost}
-use Rattle.world_core.specs.Moments.{Moment, opening}
+use Rattle.world_core.specs.Moments.{IsSoundMoment, Moment, opening, sent_by}
 use Rattle.world_core.specs.Standing.{IsNew}
 use Rattle.world_core.specs.Steps.{Cut as CutOff, Down as GoDown, Drains, IsAllDrained, Sent, Ticks, Up as GoUp, added, timed}
-use Rattle.world_core.specs.Laws.{Holds}
+use Rattle.world_core.specs.Laws.{HasAll, Holds}
 use Rattle.replay_cli.specs.Printed.{line, field, line_feed, bytes_text, order_text}
 use Rattle.replay_cli.specs.Endings.{session_text, store_text}
-use Rattle.replay_cli.specs.Script.{MayStand, opened_by}
+use Rattle.replay_cli.specs.Script.{IsOpen, IsTime, opened, opened_by}
 use Rattle.replay_cli.specs.declared.script.Event.{Event}
 use Rattle.replay_cli.specs.declared.script.Event.TheVariants.{Open, Send, Up, Down, Cut, Time, Tick, Drain}
 
@@ -38,10 +38,28 @@ unfoldable pub AllHappen : EntryKeys → List Event → Moment → Moment → Ty
 AllHappen keys [] m n = n ≡ m
 AllHappen keys (event ∷ events) m n = (next : Moment) × Happens keys event m next × AllHappen keys events next n
 
--- each event may stand where it does, where so many connections were opened above
+-- an event names a connection that was opened, of so many, or a time of a store
+abbrev pub MayHappen : ℕ → Event → Type 0
+MayHappen opened Open = Unit {0}
+MayHappen opened (Send c bytes) = IsOpen opened c
+MayHappen opened (Up c first second) = IsOpen opened c
+MayHappen opened (Down c limit) = IsOpen opened c
+MayHappen opened (Cut c) = IsOpen opened c
+MayHappen opened (Time now) = IsTime now
+MayHappen opened Tick = Unit {0}
+MayHappen opened Drain = Unit {0}
+
+-- each event may happen where it stands, where so many connections were opened above
 unfoldable pub MayFollow : ℕ → List Event → Type 0
 MayFollow opened [] = Unit {0}
-MayFollow opened (event ∷ events) = MayStand opened event × MayFollow (opened + opened_by event) events
+MayFollow opened (event ∷ events) = MayHappen opened event × MayFollow (opened + opened_by event) events
+
+-- what the client of connection c sends before a cut
+unfoldable pub sent_to : ℕ → List Event → List ℕ
+sent_to c [] = []
+sent_to c (Send d bytes ∷ events) = if d == c then bytes ++ sent_to c events else sent_to c events
+sent_to c (Cut d ∷ events) = if d == c then [] else sent_to c events
+sent_to c (event ∷ events) = sent_to c events
 
 -- the last event is a drain
 unfoldable pub ends_in_drain : List Event → Bool
@@ -58,14 +76,20 @@ pub record IsFirstPast (keys : EntryKeys) (past : Past) : Type 0 where
   pub key : past.key ≡ replicate 16 0
   pub limit : past.limit ≡ 1000000
 
--- The headline. A replay of these events comes to this moment: they happened to it one after another; the law over sessions holds of its
--- connections; and where the last event is a drain, nothing is left of a connection whose session goes on.
+-- The headline. A replay of these events comes to this moment: they happened to it one after another, from a fresh store; the store follows
+-- the machine, with the passwords of the key of 16 zero bytes, and the law over sessions holds of its connections and of what the events gave
+-- their clients to send; and where the last event is a drain, a connection whose session goes on has all of it.
 pub record Replayed (keys : EntryKeys) (events : List Event) (m : Moment) : Type 0 where
   pub first : Past
   pub is_first : IsFirstPast keys first
   pub happen : AllHappen keys events (opening first) m
+  pub sound : IsSoundMoment keys 0 m
+  pub key : m.past.key ≡ replicate 16 0
+  pub admitted : m.past.admitted ≡ opened events
+  pub given : (c : ℕ) → sent_by (m.links c) ≡ sent_to c events
   pub holds : Holds keys 0 m
   pub drained : ends_in_drain events ≡ true → IsAllDrained m
+  pub complete : ends_in_drain events ≡ true → (c : ℕ) → (m.links c).stand.ending ≡ None → HasAll keys 0 c m holds
 
 -- ---- what is printed
 

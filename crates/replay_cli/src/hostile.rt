@@ -149,8 +149,7 @@ fn printed(alloc: Global, keys: EntryKeys, events: &[HostileEvent]) -> Result<St
 fn text_of<'a>(alloc: Global, keys: EntryKeys, script: &[u8]) -> Result<String, Stop<'a>>
     ensures ok { IfOk result (λ text. (events : List HostileEvent)
         × IsHostileScript script.now events × PrintsHostile keys events (string_bytes text)) }
-    ensures err { IfErr result (λ stop. BecauseOfScript stop (IsFirstBadHostileLine script.now)
-        ⊥) }
+    ensures err { IfErr result (λ stop. BecauseOfScript stop (IsFirstBadHostileLine script.now)) }
 {
     let events = match read_hostile_script(alloc, script) {
         Ok(events) => events,
@@ -178,7 +177,7 @@ pub fn hostile<'a, F: Files>(
         IsUnreadOf key.now script.now (F.reads files.old) (F.failed files.new) name
         × Rose (F.faults files.old) (F.faults files.new)) (IsLongOf (F.told files.old) key.now
         script.now) (IsBadKey (F.told files.old key.now)) (IsBadScript IsFirstBadHostileLine
-        (F.told files.old key.now) (F.told files.old script.now)) ⊥) }
+        (F.told files.old key.now) (F.told files.old script.now))) }
     ensures later { F.faults files.old ≤ F.faults files.new }
 {
     match load_keyed(alloc, key, script, files) {

@@ -19,8 +19,11 @@ mod script;
 mod show;
 mod sinks;
 mod stops;
+mod stress;
+mod tally;
 mod top_call;
 mod words;
+mod workload;
 
 pub use files::{FileFault, Files, MemoryFiles, NamedFile, RealFiles};
 pub use hostile_script::{HostileEvent, HostileEvents, read_hostile_script};

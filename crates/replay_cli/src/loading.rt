@@ -56,7 +56,7 @@ pub fn load_keyed<'a, F: Files>(
     ensures err { IfErr result (λ stop. Because stop ⊥ (λ name.
         IsUnreadOf key.now script.now (F.reads files.old) (F.failed files.new) name
         × Rose (F.faults files.old) (F.faults files.new)) (IsLongOf (F.told files.old) key.now
-        script.now) (IsBadKey (F.told files.old key.now)) (λ _. ⊥) ⊥) }
+        script.now) (IsBadKey (F.told files.old key.now)) (λ _. ⊥)) }
     ensures later { F.faults files.old ≤ F.faults files.new }
 {
     let key = match load(alloc, key, files) {

@@ -9,8 +9,8 @@ ghost use Rattle.world_core.specs.Moments.{Moment, opening};
 ghost use Rattle.world_core.specs.Standing.{Stands};
 ghost use Rattle.world_core.specs.Steps.{IsAllDrained};
 ghost use Rattle.replay_cli.specs.declared.script.Event.{Event as PlainEvent};
-ghost use Rattle.replay_cli.specs.Script.{IsScript, IsFirstBadLine, MayStand};
-ghost use Rattle.replay_cli.specs.Worlds.{AllHappen, Happens, IsFirstPast, MayFollow, PrintsReplay, connection_text, ends_in_drain, link_text, links_text, world_text};
+ghost use Rattle.replay_cli.specs.Script.{IsScript, IsFirstBadLine};
+ghost use Rattle.replay_cli.specs.Worlds.{AllHappen, Happens, IsFirstPast, MayFollow, MayHappen, PrintsReplay, Replayed, connection_text, ends_in_drain, link_text, links_text, world_text};
 ghost use Rattle.replay_cli.specs.Run.{IsReplayText, IsLongOf, IsBadKey, IsBadScript};
 ghost use Rattle.replay_cli.specs.Stops.{Because, BecauseOfScript, IsUnreadOf};
 
@@ -31,7 +31,8 @@ use store_side::{Recorded, StoreEnding, StoreSide};
 use tree_server::{Journal, TreeServer};
 use world_core::World;
 
-type Store = TreeServer<CounterEnclave, Journal>;
+/// The store of a replay.
+pub type Store = TreeServer<CounterEnclave, Journal>;
 
 // The most entries of a store, with those that it owes its sessions.
 const JOURNAL_LIMIT: u32 = 1_000_000;
@@ -48,8 +49,8 @@ fn new_world(alloc: Global, keys: EntryKeys) -> Result<World<Store>, Memory>
 
 // An event happens to a world.
 fn play<S: StoreSide + Drop>(world: &mut World<S>, event: &Event) -> Result<(), Memory>
-    requires { (opened : ℕ) × MayStand opened event.now }
-    ensures { OnOk result ((keys : PlainKeys) (m : Moment) → Stands (S.stands world.old.store) keys 0 world.old.clients m → MayStand m.past.admitted event.now
+    requires { (opened : ℕ) × MayHappen opened event.now }
+    ensures { OnOk result ((keys : PlainKeys) (m : Moment) → Stands (S.stands world.old.store) keys 0 world.old.clients m → MayHappen m.past.admitted event.now
         → (n : Moment) × Happens keys event.now m n × Stands (S.stands world.new.store) keys 0 world.new.clients n) }
 {
     match event {
@@ -164,13 +165,22 @@ fn printed<S: Recorded + Drop>(alloc: Global, world: &World<S>) -> Result<String
     Ok(text)
 }
 
+/// A world to which these events happened, over a store of its own.
+pub fn replayed(alloc: Global, keys: EntryKeys, events: &[Event]) -> Result<World<Store>, Memory>
+    requires { MayFollow 0 events.now }
+    ensures { IfOk result (λ w. (m : Moment) × Replayed keys events.now m × Stands (⟦<Store as StoreSide>⟧.stands w.store) keys 0 w.clients m) }
+{
+    let mut world = new_world(alloc, keys)?;
+    play_all(&mut world, events)?;
+    Ok(world)
+}
+
 // The text that events print.
 fn text_of_events(alloc: Global, keys: EntryKeys, events: &[Event]) -> Result<String, Memory>
     requires { MayFollow 0 events.now }
     ensures { IfOk result (λ text. PrintsReplay keys events.now (string_bytes text)) }
 {
-    let mut world = new_world(alloc, keys)?;
-    play_all(&mut world, events)?;
+    let world = replayed(alloc, keys, events)?;
     let text = printed(alloc, &world)?;
     Ok(text)
 }
@@ -178,7 +188,7 @@ fn text_of_events(alloc: Global, keys: EntryKeys, events: &[Event]) -> Result<St
 // The text that a script prints, or why there is none.
 fn text_of<'a>(alloc: Global, keys: EntryKeys, script: &[u8]) -> Result<String, Stop<'a>>
     ensures ok { IfOk result (λ text. (events : List PlainEvent) × IsScript script.now events × PrintsReplay keys events (string_bytes text)) }
-    ensures err { IfErr result (λ stop. BecauseOfScript stop (IsFirstBadLine script.now) ⊥) }
+    ensures err { IfErr result (λ stop. BecauseOfScript stop (IsFirstBadLine script.now)) }
 {
     let events = match read_script(alloc, script) {
         Ok(events) => events,
@@ -206,7 +216,7 @@ pub fn replay<'a, F: Files>(
         IsUnreadOf key.now script.now (F.reads files.old) (F.failed files.new) name
         × Rose (F.faults files.old) (F.faults files.new)) (IsLongOf (F.told files.old) key.now
         script.now) (IsBadKey (F.told files.old key.now)) (IsBadScript IsFirstBadLine
-        (F.told files.old key.now) (F.told files.old script.now)) ⊥) }
+        (F.told files.old key.now) (F.told files.old script.now))) }
     ensures later { F.faults files.old ≤ F.faults files.new }
 {
     match load_keyed(alloc, key, script, files) {

@@ -1,6 +1,6 @@
 //! What `show` prints: the frames of a client's bytes.
 
-ghost use Rattle.std.specs.Prelude.{◌≡◌, ◌≤◌, ◌<ℤ◌, ◌⊎◌, ◌++◌, ℕ, pos, List, [], length, Bool, IfOk, IfErr, OnOk, string_bytes};
+ghost use Rattle.std.specs.Prelude.{◌≡◌, ◌≤◌, ◌<ℤ◌, ◌≤ℤ◌, ◌⊎◌, ◌++◌, ℕ, pos, List, [], length, Bool, IfOk, IfErr, OnOk, string_bytes};
 ghost use Rattle.std.specs.Option.{option_copied};
 ghost use Rattle.jute_core.specs.Frames.{frame};
 ghost use Rattle.jute_core.specs.Records.{IfRefused};
@@ -51,15 +51,15 @@ enum Next<'a> {
     End(Ending),
 }
 
-// The length that four bytes name, or the int where it is none within the limit.
-fn length_of(prefix: &[u8]) -> Result<usize, i32>
+/// Returns the length that four bytes name, or the int where it is none within the limit.
+pub(crate) fn length_of(prefix: &[u8], limit: i32) -> Result<usize, i32>
     requires { length prefix.now ≡ 4 }
-    ensures within { IfOk result (λ size. IsInt (pos size) prefix.now × (size ≤ client_limit)) }
+    ensures within { IfOk result (λ size. IsInt (pos size) prefix.now × (pos size ≤ℤ limit)) }
     ensures beyond { IfErr result (λ named. IsInt named prefix.now
-        × ((named <ℤ pos 0) ⊎ (pos client_limit <ℤ named))) }
+        × ((named <ℤ pos 0) ⊎ (limit <ℤ named))) }
 {
     let named = i32::from_be_bytes([prefix[0], prefix[1], prefix[2], prefix[3]]);
-    if named < 0 || named > CLIENT_LIMIT {
+    if named < 0 || named > limit {
         return Err(named);
     }
     Ok(named as usize)
@@ -78,7 +78,7 @@ fn cut_off(bytes: &[u8]) -> Result<(&[u8], &[u8]), Ending>
         return Err(Ending::CutShort(bytes.len()));
     }
     let (prefix, rest) = bytes.split_at(4);
-    let size = match length_of(prefix) {
+    let size = match length_of(prefix, CLIENT_LIMIT) {
         Ok(size) => size,
         Err(named) => return Err(Ending::TooLong(named)),
     };

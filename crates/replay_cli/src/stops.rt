@@ -22,8 +22,6 @@ pub enum Status {
     ScriptMalformed,
     /// A file has more bytes than are read.
     InputTooLong,
-    /// The command, or the form of its files, is not built yet.
-    NotBuilt,
     /// What was to be printed, or the line of another status, could not be written.
     WriteFault,
     /// There was no memory.
@@ -44,7 +42,6 @@ impl Status {
             Status::WriteFault => 6,
             Status::Memory => 7,
             Status::InputTooLong => 8,
-            Status::NotBuilt => 11,
         }
     }
 }
@@ -62,8 +59,6 @@ pub enum Stop<'a> {
     KeyMalformed(usize),
     /// This line of the script is the first that fits no event where it stands.
     ScriptMalformed(u64),
-    /// The command, or the form of its files, is not built yet.
-    NotBuilt,
     /// There was no memory.
     Memory,
 }
@@ -86,7 +81,6 @@ pub fn complaint(alloc: Global, stop: Stop<'_>) -> Result<String, Memory>
             let number = number.to_string(alloc)?;
             push_line(&mut text, "script line ", number.as_str())?;
         }
-        Stop::NotBuilt => push_line(&mut text, "not built", "")?,
         Stop::Memory => push_line(&mut text, "no memory", "")?,
     }
     Ok(text)
@@ -102,7 +96,6 @@ pub fn status_of(stop: Stop<'_>) -> Status
         Stop::TooLong(_) => Status::InputTooLong,
         Stop::KeyMalformed(_) => Status::KeyMalformed,
         Stop::ScriptMalformed(_) => Status::ScriptMalformed,
-        Stop::NotBuilt => Status::NotBuilt,
         Stop::Memory => Status::Memory,
     }
 }

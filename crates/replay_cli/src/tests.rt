@@ -164,11 +164,13 @@ fn words_of_no_row(rt: HostRuntime) -> Result<(), Fail> {
 }
 
 #[test]
-fn what_is_not_built(rt: HostRuntime) -> Result<(), Fail> {
+fn a_workload_without_steps(rt: HostRuntime) -> Result<(), Fail> {
     let alloc = rt.alloc();
-    let stress = ran(alloc, &["stress", "18446744073709551615", "64", "0"], 64)?;
-    assert!(rt; stress.status == Status::NotBuilt);
-    assert_eq!(rt; stress.err.taken(), b"not built\n".as_slice());
+    let ran = ran(alloc, &["stress", "7", "1", "0"], 64)?;
+    assert!(rt; ran.status == Status::Done);
+    let text = b"sessions 1\nsteps 0\nentries 2\nevents 0\nreplies 1\nerrors 0\n\
+        digest ca756c347b355eb6ec9023888d25c5beb0c2d5be9ca4fe4cc89c0347b7647bf2\n";
+    assert_eq!(rt; ran.out.taken(), text.as_slice());
     Ok(())
 }
 

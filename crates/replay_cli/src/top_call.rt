@@ -3,7 +3,7 @@
 ghost use Rattle.std.specs.Prelude.{◌≡◌, ◌≢◌, ℕ, ◌≤◌, ◌⊎◌, List, ◌++◌, Some, IfOk, IfErr, string_bytes, codes, []};
 ghost use Rattle.replay_cli.specs.Printed.{line};
 ghost use Rattle.jute_core.specs.Faults.{Rose, Wrote, WroteFront};
-ghost use Rattle.replay_cli.specs.Words.{Fits, ReadsFiles, IsUnbuilt};
+ghost use Rattle.replay_cli.specs.Words.{Fits, ReadsFiles};
 ghost use Rattle.replay_cli.specs.Run.{IsTooLong, IsShownText, Prints, HasLong, HasBadKey, HasBadLine, StopsAtFile, StopsAtKey, StopsAtLine};
 ghost use Rattle.replay_cli.specs.Sinks.{ReportsFault, FailsToReport};
 ghost use Rattle.replay_cli.specs.Stops.{Because, BecauseOfFile, status_of, complaint_of, unread_line, too_long_line, bad_key_line, bad_script_line, IsUnread, IsLine, Complains};
@@ -15,6 +15,7 @@ use crate::replay::replay;
 use crate::show::show_frames;
 use crate::sinks::Sink;
 use crate::stops::{Status, Stop, complaint, status_of};
+use crate::stress::stress;
 use crate::words::{Command, command_of};
 use std::alloc::Global;
 
@@ -48,16 +49,25 @@ fn outcome<'a, F: Files>(
         → ⊥) (λ name. IsUnread words.now (F.reads files.old) (F.failed files.new) name
         × Rose (F.faults files.old) (F.faults files.new))
         (HasLong words.now (F.told files.old)) (HasBadKey words.now (F.told files.old))
-        (HasBadLine words.now (F.told files.old)) (IsUnbuilt words.now)) }
+        (HasBadLine words.now (F.told files.old))) }
     ensures later { F.faults files.old ≤ F.faults files.new }
     ensures unread { (ReadsFiles words.now → ⊥) → files.new ≡ files.old }
 {
     match command_of(words) {
         None => Err(Stop::BadWords),
-        Some(Command::Unbuilt) => Err(Stop::NotBuilt),
         Some(Command::Replay { key, script }) => replay(alloc, key, script, files),
         Some(Command::Hostile { key, script }) => hostile(alloc, key, script, files),
         Some(Command::Show { file }) => show(alloc, file, files),
+        Some(
+            Command::Stress {
+                seed,
+                sessions,
+                steps,
+            },
+        ) => match stress(alloc, seed, sessions, steps) {
+            Ok(text) => Ok(text),
+            Err(_) => Err(Stop::Memory),
+        },
     }
 }
 
@@ -182,10 +192,6 @@ pub fn run<F: Files, K: Sink, E: Sink>(
     ensures bad_script { StopsAtLine words.now (F.told files.old)
         → (result ≡ Status.ScriptMalformed) ⊎ (result ≡ Status.ReadFault)
         ⊎ (result ≡ Status.WriteFault) ⊎ (result ≡ Status.Memory) }
-    // A command that is not built.
-    ensures not_built { result ≡ Status.NotBuilt → IsUnbuilt words.now }
-    ensures unbuilt { IsUnbuilt words.now → (result ≡ Status.NotBuilt)
-        ⊎ (result ≡ Status.WriteFault) ⊎ (result ≡ Status.Memory) }
     // Only a replay, a hostile and a show read files.
     ensures unread { (ReadsFiles words.now → ⊥) → files.new ≡ files.old }
     // What is printed.
@@ -209,7 +215,7 @@ pub fn run<F: Files, K: Sink, E: Sink>(
         → K.taken out.new ≡ K.taken out.old }
     ensures complains { Complains words.now result (E.taken err.old) (E.taken err.new) }
     // Where no cause holds and nothing fails, it is done but for memory.
-    ensures complete { ReadsFiles words.now
+    ensures complete { Fits words.now
         → ((name : List ℕ) → HasLong words.now (F.told files.old) name → ⊥)
         → ((size : ℕ) → HasBadKey words.now (F.told files.old) size → ⊥)
         → ((number : ℕ) → HasBadLine words.now (F.told files.old) number → ⊥)

@@ -1,7 +1,7 @@
 use Rattle.std.proofs.Common.{subst}
 use Rattle.std.specs.Int.{w64}
 use Rattle.std.proofs.lemmas.Int.{to_z-of_z}
-use Rattle.replay_cli.specs.Script.{MayStand}
+use Rattle.replay_cli.specs.Worlds.{MayHappen}
 use Rattle.replay_cli.specs.declared.script.Event.{Event}
 use Rattle.replay_cli.proofs.Happenings.{fits_time}
 use Rattle.replay_cli.proofs.Playing.{as_event, open_plays, send_plays, up_plays, down_plays, cut_plays, time_plays, tick_plays, drain_plays}
@@ -24,7 +24,7 @@ returns-in-Cut g c = as_event _ _ _ _ _ _ c.in-Cut.is (cut_plays _ _ _ _ _ c.cut
 
 pub returns-in-Time : goal.returns-in-Time
 returns-in-Time g c =
-    let may = subst (λ (e : Event). MayStand c.requires.0 e) c.in-Time.is c.requires.1 in
+    let may = subst (λ (e : Event). MayHappen c.requires.0 e) c.in-Time.is c.requires.1 in
     let same = to_z-of_z w64 c.in-Time.now (fits_time c.requires.0 c.in-Time.now may) in
     as_event _ _ _ _ _ _ c.in-Time.is (time_plays _ _ _ _ _ (rw same at c.time.ensures))
 
