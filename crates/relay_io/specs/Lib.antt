@@ -1,0 +1,5 @@
+pub mod MemoryDuos
+pub mod Relayed
+pub mod Scenes
+pub mod Sides
+pub mod Turns

@@ -1,0 +1,152 @@
+//! Relays of one whole session, over a duo in memory and over sockets.
+
+use crate::{DuoEvent, MemoryDuo, SocketDuo, relay};
+use audit_board::Teller;
+use entry_session::Ending;
+use jute_core::Bytes;
+use path_seal::NameKeys;
+use payload_seal::{EntryKeys, PayloadKeys};
+use reply_rewrite::Finding;
+use std::alloc::{AllocError, Global};
+use std::io::{self, Read, Write};
+use std::net::{TcpListener, TcpStream};
+use std::test::Fail;
+use std::thread;
+
+// A connect, exists "/" and closeSession.
+const ASKED: &[u8] =
+    b"\0\0\0\x2d\0\0\0\0\0\0\0\0\0\0\0\0\0\0\x75\x30\0\0\0\0\0\0\0\0\0\0\0\x10\0\0\0\0\0\0\0\0\0\0\0\0\0\0\0\0\0\
+    \0\0\0\x0e\0\0\0\x01\0\0\0\x03\0\0\0\x01/\0\0\0\0\x08\0\0\0\x02\xff\xff\xff\xf5";
+
+// The connect alone.
+const CONNECT: usize = 49;
+
+// What a store answers to them: a session, the Stat of the root, and nothing.
+const ANSWERED: &[u8] =
+    b"\0\0\0\x25\0\0\0\0\0\0\x75\x30\0\0\0\0\0\0\0\x01\0\0\0\x10\x58\xe2\xfc\xce\xfa\x7e\x30\x61\x36\x7f\x1d\x57\xa4\xe7\x45\x5a\0\
+    \0\0\0\x54\0\0\0\x01\0\0\0\0\0\0\0\x01\0\0\0\0\
+    \0\0\0\0\0\0\0\0\0\0\0\0\0\0\0\0\0\0\0\0\0\0\0\0\0\0\0\0\0\0\0\0\0\0\
+    \0\0\0\0\0\0\0\0\0\0\0\0\0\0\0\0\0\0\0\0\0\0\0\0\0\0\0\0\0\0\0\0\0\0\
+    \0\0\0\x10\0\0\0\x02\0\0\0\0\0\0\0\x02\0\0\0\0";
+
+// How many findings were told.
+#[derive(Drop)]
+struct Tally {
+    count: u64,
+}
+
+impl Teller for Tally {
+    ghost use Rattle.std.specs.Prelude.{◌≤◌};
+
+    ghost Told = { λ before finding after. before.count ≤ after.count };
+
+    fn tell(&mut self, _finding: &Finding) -> u32 {
+        self.count = self.count.saturating_add(1);
+        0
+    }
+}
+
+fn keys() -> EntryKeys {
+    EntryKeys {
+        names: NameKeys::new([0; 16], [0; 32]),
+        payloads: PayloadKeys::new([1; 16]),
+    }
+}
+
+fn bytes(alloc: Global, of: &[u8]) -> Result<Bytes, AllocError> {
+    Ok(Bytes::of(Vec::from_slice(alloc, of)?))
+}
+
+// Both sides of the session, a piece each, of which the calls with these numbers fail.
+fn whole_session(alloc: Global, fails: &[u64]) -> Result<MemoryDuo, AllocError> {
+    let events = vec![in alloc;
+        DuoEvent::Idle,
+        DuoEvent::Client(bytes(alloc, ASKED)?),
+        DuoEvent::Store(bytes(alloc, b"")?),
+        DuoEvent::Store(bytes(alloc, ANSWERED)?),
+    ]?;
+    Ok(MemoryDuo::new(alloc, events, Vec::from_slice(alloc, fails)?))
+}
+
+#[test]
+fn both_sides_hold_what_the_session_handed_over(rt: HostRuntime) -> Result<(), Fail> {
+    let alloc = rt.alloc();
+    let mut duo = whole_session(alloc, &[])?;
+    let mut board = Tally { count: 0 };
+    let ending = relay(alloc, keys(), 0, 1, 10, &mut duo, &mut board);
+    assert_eq!(rt; ending, Ending::Closed);
+    assert!(rt; duo.store_taken() == ASKED);
+    assert!(rt; duo.client_taken() == ANSWERED);
+    assert_eq!(rt; (duo.heard().len(), duo.short(), board.count), (3, 0, 0));
+    Ok(())
+}
+
+#[test]
+fn a_write_to_the_store_that_fails_ends_the_relay(rt: HostRuntime) -> Result<(), Fail> {
+    let alloc = rt.alloc();
+    let events = vec![in alloc; DuoEvent::Client(bytes(alloc, &ASKED[..CONNECT])?)]?;
+    let mut duo = MemoryDuo::new(alloc, events, Vec::from_slice(alloc, &[1])?);
+    let mut board = Tally { count: 0 };
+    let ending = relay(alloc, keys(), 0, 1, 10, &mut duo, &mut board);
+    assert_eq!(rt; ending, Ending::StoreFault);
+    assert!(rt; ASKED[..CONNECT].starts_with(duo.store_taken()));
+    assert_eq!(rt; duo.client_taken().len(), 0);
+    Ok(())
+}
+
+#[test]
+fn a_session_that_closes_is_closed_though_the_last_write_fails(
+    rt: HostRuntime,
+) -> Result<(), Fail> {
+    let alloc = rt.alloc();
+    let mut duo = whole_session(alloc, &[4])?;
+    let mut board = Tally { count: 0 };
+    let ending = relay(alloc, keys(), 0, 1, 10, &mut duo, &mut board);
+    assert_eq!(rt; ending, Ending::Closed);
+    assert!(rt; duo.store_taken() == ASKED);
+    assert_eq!(rt; duo.client_taken().len(), 0);
+    Ok(())
+}
+
+#[test]
+fn turns_that_are_used_up(rt: HostRuntime) -> Result<(), Fail> {
+    let alloc = rt.alloc();
+    let mut duo = whole_session(alloc, &[])?;
+    let mut board = Tally { count: 0 };
+    let ending = relay(alloc, keys(), 0, 1, 2, &mut duo, &mut board);
+    assert_eq!(rt; ending, Ending::Turns);
+    assert!(rt; duo.store_taken() == ASKED);
+    Ok(())
+}
+
+// A store: takes what is asked, answers it, and hears the end.
+fn answer(listener: &TcpListener) -> io::Result<bool> {
+    let (mut stream, _) = listener.accept()?;
+    let mut asked = [0u8; 79];
+    stream.read_exact(&mut asked)?;
+    stream.write_all(ANSWERED)?;
+    Ok(asked.as_slice() == ASKED)
+}
+
+#[test]
+fn a_session_over_sockets(rt: HostRuntime) -> Result<(), Fail> {
+    let alloc = rt.alloc();
+    let store = TcpListener::bind(&rt, "127.0.0.1:0")?;
+    let store_at = store.local_addr()?;
+    let front = TcpListener::bind(&rt, "127.0.0.1:0")?;
+    let mut client = TcpStream::connect(&rt, front.local_addr()?)?;
+    let (near, _) = front.accept()?;
+    let far = TcpStream::connect(&rt, store_at)?;
+    let server = thread::spawn(&rt, move || answer(&store))?;
+    client.write_all(ASKED)?;
+    let mut duo = SocketDuo::new(near, far)?;
+    let mut board = Tally { count: 0 };
+    let ending = relay(alloc, keys(), 0, 1, 1000, &mut duo, &mut board);
+    assert_eq!(rt; ending, Ending::Closed);
+    let mut received = [0u8; 149];
+    client.read_exact(&mut received)?;
+    assert!(rt; received.as_slice() == ANSWERED);
+    let asked = server.join(&rt);
+    assert!(rt; matches!(asked, Ok(true)));
+    Ok(())
+}
