@@ -1,5 +1,5 @@
 -- A connection that was admitted in a history is known to the past that the history leads to.
-use Rattle.std.proofs.Common.{◌≡◌, ℕ, ℤ, ◌+◌, ◌≤◌, List, [], ◌∷◌, ◌++◌, refl, sym, ap, ◌∙◌, arith, append_assoc, Option, Some, None, Result, Ok, Err}
+use Rattle.std.proofs.Common.{◌≡◌, ℕ, ℤ, ◌+◌, ◌≤◌, List, [], ◌∷◌, ◌++◌, sym, ap, ◌∙◌, arith, append_assoc, Option, Some, None, Result, Ok, Err}
 use Rattle.store_side.specs.Past.{Past as Went}
 use Rattle.store_side.specs.Follows.{IsAdmitted}
 use Rattle.store_side.specs.Calls as calls

@@ -1,10 +1,7 @@
 -- Histories that grow by an item, and the passes of a list of views.
-use Rattle.std.proofs.Common.{◌≡◌, ◌≢◌, ℕ, zero, suc, ◌+◌, ◌≤◌, Bool, true, false, cond, eqb, List, [], ◌∷◌, ◌++◌, set, refl, sym, ap, ◌∙◌, subst, arith, append_assoc, append-nil, eq-eqb, ne_eqb, Result}
+use Rattle.std.proofs.Common.{◌≡◌, ◌≢◌, ℕ, zero, suc, ◌+◌, ◌≤◌, Bool, true, false, cond, eqb, List, [], ◌∷◌, ◌++◌, set, refl, sym, ap, ◌∙◌, subst, arith, append_assoc, append-nil, eq-eqb, ne_eqb}
 use mathlib.Core.Option.{some, some-injective, some-ne-none}
 use lib.ListN.{get_elem?}
-use Rattle.tree_hall.specs.declared.act.Act.{Act}
-use Rattle.tree_hall.specs.declared.act.Answer.{Answer}
-use Rattle.store_side.specs.declared.ending.StoreEnding.{StoreEnding}
 use Rattle.store_side.specs.Past.{Past as Went}
 use Rattle.tree_hall.specs.declared.view.Item.{Item}
 use Rattle.tree_hall.specs.declared.view.View.{View}

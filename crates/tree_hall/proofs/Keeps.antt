@@ -1,5 +1,5 @@
 -- Each step keeps what holds between the steps: the steps of a turn.
-use Rattle.std.proofs.Common.{◌≡◌, ◌≢◌, ℕ, ◌+◌, ◌<◌, true, false, eqb, List, [], ◌∷◌, ◌++◌, length, get_or, set, refl, sym, ap, ◌∙◌, subst, arith, length-set, length-append, append-nil, Option, Some, Result}
+use Rattle.std.proofs.Common.{◌≡◌, ◌≢◌, ℕ, ◌+◌, ◌<◌, true, false, eqb, List, [], ◌∷◌, ◌++◌, length, get_or, set, refl, sym, ap, ◌∙◌, subst, arith, length-set, length-append, append-nil, Option, Some}
 use mathlib.Core.Logic.{dite}
 use mathlib.Core.Option.{none, some}
 use native.Mathlib.Decide.{ℕ_discrete}
@@ -9,9 +9,6 @@ use prog.Atomic.{either}
 use Rattle.atomic_table.specs.Table.{State, Me, step, keeps, takes, gives, carried_after, Valid, homes_after, stepped, Allows, opening}
 use Rattle.atomic_table.specs.Table as table
 use Rattle.atomic_table.proofs.Lists.{set_again, set_here, exchanged}
-use Rattle.tree_hall.specs.declared.act.Act.{Act}
-use Rattle.tree_hall.specs.declared.act.Answer.{Answer}
-use Rattle.store_side.specs.declared.ending.StoreEnding.{StoreEnding}
 use Rattle.store_side.specs.Past.{Past as Went}
 use Rattle.tree_hall.specs.declared.view.Item.{Item}
 use Rattle.tree_hall.specs.declared.view.View.{View}

@@ -1,5 +1,5 @@
 -- A history goes on by what a store did.
-use Rattle.std.proofs.Common.{◌≡◌, ℕ, List, [], ◌∷◌, ◌++◌, sym, ap, ◌∙◌, subst, Option, Some, Result}
+use Rattle.std.proofs.Common.{◌≡◌, ℕ, List, [], ◌∷◌, ◌++◌, sym, ap, ◌∙◌, subst, Some, Result}
 use Rattle.store_side.specs.Past.{Past as Went}
 use Rattle.store_side.specs.declared.ending.StoreEnding.{StoreEnding}
 use Rattle.tree_hall.specs.declared.act.Act.{Act}
@@ -8,7 +8,7 @@ use Rattle.tree_hall.specs.declared.act.Call.{Call}
 use Rattle.tree_hall.specs.declared.view.Item.{Item}
 use Rattle.tree_hall.specs.declared.view.View.{View}
 use Rattle.tree_hall.specs.declared.view.Desk.{Desk}
-use Rattle.tree_hall.specs.Histories.{Allows, Played, LeadsTo, Named, Knows, item}
+use Rattle.tree_hall.specs.Histories.{Allows, LeadsTo, Named, Knows, item}
 use Rattle.tree_hall.specs.Turns.{Sat, HasStore, item_of}
 use Rattle.tree_hall.proofs.Histories.{played-snoc}
 use Rattle.tree_hall.proofs.Admitting.{knows}

@@ -1,5 +1,5 @@
 -- Each step keeps what holds between the steps: how a hall begins, the steps of its passes, and how it ends.
-use Rattle.std.proofs.Common.{◌≡◌, ◌≢◌, ℕ, zero, suc, ◌+◌, ◌%◌, ◌<◌, ◌≤◌, true, false, true≢false, eqb, List, [], ◌∷◌, ◌++◌, length, get_or, set, refl, sym, ap, ◌∙◌, subst, ⊎_elim, arith, length-set, append-nil, lt_of_not-le, Option, Some, Result}
+use Rattle.std.proofs.Common.{◌≡◌, ◌≢◌, ℕ, zero, suc, ◌+◌, ◌%◌, ◌<◌, ◌≤◌, true, false, true≢false, eqb, List, [], ◌∷◌, ◌++◌, length, get_or, set, refl, sym, ap, ◌∙◌, subst, ⊎_elim, arith, length-set, append-nil, lt_of_not-le, Option, Some}
 use mathlib.Core.Logic.{dite}
 use mathlib.Core.Option.{none, some, some-injective, some-ne-none}
 use native.Mathlib.Decide.{ℕ_discrete, dec_le}
@@ -9,16 +9,13 @@ use prog.Atomic.{either}
 use Rattle.atomic_table.specs.Table.{State, Me, step, keeps, carried_after, Valid, stepped, Allows, Joins, opening, Final, Seen}
 use Rattle.atomic_table.specs.Table as table
 use Rattle.atomic_table.proofs.Lists.{at_set, set_else, at_longer, at_last, exchanged}
-use Rattle.tree_hall.specs.declared.act.Act.{Act}
-use Rattle.tree_hall.specs.declared.act.Answer.{Answer}
-use Rattle.store_side.specs.declared.ending.StoreEnding.{StoreEnding}
 use Rattle.store_side.specs.Past.{Past as Went}
 use Rattle.tree_hall.specs.declared.view.Item.{Item}
 use Rattle.tree_hall.specs.declared.view.View.{View}
 use Rattle.tree_hall.specs.declared.view.Desk.{Desk}
 use Rattle.tree_hall.specs.declared.view.Role.{Role}
 use Rattle.tree_hall.specs.declared.view.Role.TheVariants.{Gone, Idle, Waits, Has, Told, Splits, Meets, Counts, Alone}
-use Rattle.tree_hall.specs.Histories.{IsPlayed, LeadsTo, calls_by, StartsWith}
+use Rattle.tree_hall.specs.Histories.{LeadsTo, calls_by, StartsWith}
 use Rattle.tree_hall.specs.Turns.{weight, is_busy, Turn, Post, Fits, Kept, Sat, starting, posed, shown, newcomer, spare_of, nobody, both, numbered, looked, compared, counted, Rested, Same}
 use Rattle.tree_hall.specs.Passes.{IsWhole}
 use Rattle.tree_hall.proofs.Histories.{calls-append, played-of, starts-self, passes-set, passes-snoc, passes-at, passes-alone}

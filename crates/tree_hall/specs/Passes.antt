@@ -1,5 +1,5 @@
 -- What a clause says of a pass and of a hall.
-use Rattle.std.specs.Prelude.{◌≡◌, ℕ, List, [], ◌∷◌, ◌++◌, Result}
+use Rattle.std.specs.Prelude.{◌≡◌, ℕ, List, [], ◌∷◌, Result}
 use Rattle.atomic_table.specs.Seated.{TableId}
 use Rattle.store_side.specs.declared.ending.StoreEnding.{StoreEnding}
 use Rattle.tree_hall.specs.declared.act.Act.{Act}

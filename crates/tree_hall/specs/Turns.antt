@@ -144,7 +144,8 @@ module _ {S : Type 0} where
 
   -- whether one pass alone is left
   abbrev pub compared : At S → Sat S → ℕ → Sat S → Type 0
-  compared st m found m' = (n : ℕ) → m.0.role ≡ Counts n → (n < found) × (found ≡ n + 1 → m' ≡ (posed m.0 Alone, m.1)) × (found ≢ n + 1 → m' ≡ (posed m.0 Idle, m.1))
+  compared st m found m' = (n : ℕ) → m.0.role ≡ Counts n
+      → (n < found) × (found ≡ n + 1 → m' ≡ (posed m.0 Alone, m.1)) × (found ≢ n + 1 → m' ≡ (posed m.0 Idle, m.1))
 
 -- the call of this desk
 abbrev pub item_of : {S : Type 0} → ℕ → Desk S → Item
@@ -190,7 +191,8 @@ module _ {S : Type 0} (opened : Went → Type 0) where
 module _ {S : Type 0} (stands : S → Went → Type 0) (opened : Went → Type 0) where
   -- the store was taken, and the history was seen that it stands for
   abbrev pub Took : ℕ → Sat S → Sat S → Type 0
-  Took t m m' = (y : Desk S) × (log : List Item) × (m' ≡ (shown m.0 (Has t) log, (0, Some y) ∷ [])) × StartsWith log m.0.seen × LeadsTo opened log (stands y.store)
+  Took t m m' =
+      (y : Desk S) × (log : List Item) × (m' ≡ (shown m.0 (Has t) log, (0, Some y) ∷ [])) × StartsWith log m.0.seen × LeadsTo opened log (stands y.store)
 
   -- the same where the ticket is served; else nothing changed
   abbrev pub taken : At S → Sat S → ℕ → Sat S → Type 0

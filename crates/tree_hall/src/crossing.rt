@@ -6,11 +6,13 @@ use crate::bells::Bells;
 use crate::hall::Hall;
 use store_side::StoreSide;
 
-fn shares<T: Sync>(_x: &T)
+/// Tells a proof that values of this type may be shared between threads. Does nothing.
+pub fn shares<T: Sync>(_x: &T)
     ensures { IsSync T.row }
 {}
 
-fn moves<T: Send>(_x: &T)
+/// Tells a proof that values of this type may be moved to another thread. Does nothing.
+pub fn moves<T: Send>(_x: &T)
     ensures { IsSend T.row }
 {}
 

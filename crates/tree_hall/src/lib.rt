@@ -22,6 +22,7 @@ mod view;
 
 pub use act::{Act, Answer, Call};
 pub use bells::{Bells, NoBells};
+pub use crossing::{moves, shares};
 pub use hall::{Hall, StillOut};
 pub use pass::Pass;
 

@@ -1,4 +1,4 @@
-use Rattle.std.proofs.Common.{◌≡◌, List, [], ◌∷◌, ◌++◌, sym, ap, subst}
+use Rattle.std.proofs.Common.{List, sym, ap, subst}
 use Rattle.store_side.specs.Past.{Past as Went}
 use Rattle.tree_hall.specs.declared.view.Item.{Item}
 use Rattle.tree_hall.specs.Histories.{Played}

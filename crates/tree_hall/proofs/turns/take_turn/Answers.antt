@@ -1,7 +1,7 @@
-use Rattle.std.proofs.Common.{◌≡◌, [], ◌++◌, sym, ap, ◌∙◌, subst}
+use Rattle.std.proofs.Common.{◌≡◌, [], ◌++◌, ap, ◌∙◌, subst}
 use Rattle.tree_hall.specs.declared.view.View.{View}
 use Rattle.tree_hall.specs.declared.view.Role.TheVariants.{Idle, Has}
-use Rattle.tree_hall.specs.Histories.{calls_by, StartsWith, Named, item}
+use Rattle.tree_hall.specs.Histories.{calls_by, StartsWith, item}
 use Rattle.tree_hall.specs.Turns.{shown, called}
 use Rattle.tree_hall.proofs.Admitting.{named_longer}
 use Rattle.tree_hall.proofs.turns.take_turn.Goals as goal
