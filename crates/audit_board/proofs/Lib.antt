@@ -1,2 +1,3 @@
 pub mod TellingLemmas
 pub mod GrowingLemmas
+pub mod LineLemmas

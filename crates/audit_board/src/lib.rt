@@ -15,14 +15,17 @@ mod laws;
 mod line_observer;
 mod list_observer;
 mod observer;
+mod shared_board;
 mod sinks;
 mod teller;
 
 pub use board::{Board, NotAdded, Seat};
+pub use finding_line::{Line, line_of};
 pub use laws::staying_members_grow;
 pub use line_observer::LineObserver;
 pub use list_observer::ListObserver;
 pub use observer::Observer;
+pub use shared_board::SharedBoard;
 pub use sinks::{Failed, MemorySink, Sink, StdSink};
 pub use teller::Teller;
 

@@ -43,7 +43,7 @@ impl<K: Sink> Observer for LineObserver<K> {
         ensures line { Takes (K.taken self.old.sink) (K.taken self.new.sink) (finding_text finding.now) result }
     {
         let line = line_of(finding);
-        self.sink.write(line.as_slice())
+        self.sink.write(line.as_bytes())
     }
 
     fn noted(&self, _index: usize) -> Option<Finding> {

@@ -1,12 +1,15 @@
-//! Boards whose members fail or are taken out, and the lines of findings as another program printed them.
+//! Boards whose members fail or are taken out, a board that two threads tell, and the lines of findings as another program printed them.
 
-ghost use Rattle.std.specs.Prelude.{◌≡◌, ◌+◌, ◌<◌, OnOk};
+ghost use Rattle.std.specs.Prelude.{◌≡◌, ◌+◌, ◌<◌, OnOk, None};
 
 use super::*;
 use payload_seal::Flaw;
 use reply_rewrite::{Cause, Finding};
 use std::alloc::{AllocError, Global};
+use std::sync::Arc;
+use std::sync::atomic::{AtomicU64, Ordering};
 use std::test::*;
+use std::thread;
 
 // A finding of this number.
 fn numbered(number: u64) -> Finding {
@@ -172,5 +175,50 @@ fn the_lines_of_the_other_causes(rt: HostRuntime) -> Result<(), Fail> {
     assert!(rt; prints(alloc, Cause::MultiCreated { index: 5 }, "multi-created 5")?);
     assert!(rt; prints(alloc, Cause::MultiLength { index: 6 }, "multi-length 6")?);
     assert!(rt; prints(alloc, Cause::Length { stored: -1 }, "length -1")?);
+    Ok(())
+}
+
+// Adds up 1,000 and the reply's number for each finding.
+#[derive(Drop)]
+struct Counting {
+    sum: Arc<AtomicU64>,
+}
+
+impl Observer for Counting {
+    ghost list = { λ o. None };
+
+    ghost faults = { λ o. 0 };
+
+    fn note(&mut self, finding: &Finding) -> Result<(), Failed> {
+        self.sum
+            .fetch_add(finding.reply.wrapping_add(1000), Ordering::SeqCst);
+        Ok(())
+    }
+
+    fn noted(&self, _index: usize) -> Option<Finding> {
+        None
+    }
+
+    fn faults(&self) -> u64 {
+        0
+    }
+}
+
+#[test]
+fn two_holders_tell_one_board(rt: HostRuntime) -> Result<(), Fail> {
+    let alloc = rt.alloc();
+    let sum = Arc::new(alloc, AtomicU64::new(0))?;
+    let theirs = Arc::try_clone(&sum)?;
+    let mut board = Board::new(alloc);
+    add(&mut board, Box::new(alloc, Counting { sum: theirs })?)?;
+    let mut one = SharedBoard::new(alloc, rt.clone()?, board)?;
+    let other = one.split()?;
+    let teller = thread::spawn(&rt, move || {
+        let mut other = other;
+        other.tell(&numbered(1))
+    })?;
+    assert_eq!(rt; one.tell(&numbered(20)), 0);
+    assert_eq!(rt; teller.join(&rt), 0);
+    assert_eq!(rt; sum.load(Ordering::SeqCst), 2021);
     Ok(())
 }

@@ -50,6 +50,8 @@ key_ends (stops.TooLong name) words told unread result why status at = absurd (k
 key_ends (stops.KeyMalformed size) words told unread result why status at = ends_as result KeyMalformed KeyMalformed (inl refl) status
 key_ends (stops.ScriptMalformed number) words told unread result why status at = absurd (key_line words told number at why)
 key_ends stops.Memory words told unread result why status at = ends_as result Memory KeyMalformed (inr (inr refl)) status
+key_ends stops.HostFault words told unread result why status at = absurd why
+key_ends stops.NumbersUsed words told unread result why status at = absurd why
 
 -- Scripts
 
@@ -91,3 +93,5 @@ line_ends (stops.TooLong name) words told unread result why status at = absurd (
 line_ends (stops.KeyMalformed size) words told unread result why status at = absurd (line_key words told size at why)
 line_ends (stops.ScriptMalformed number) words told unread result why status at = ends_as result ScriptMalformed ScriptMalformed (inl refl) status
 line_ends stops.Memory words told unread result why status at = ends_as result Memory ScriptMalformed (inr (inr refl)) status
+line_ends stops.HostFault words told unread result why status at = absurd why
+line_ends stops.NumbersUsed words told unread result why status at = absurd why

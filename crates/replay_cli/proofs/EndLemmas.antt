@@ -1,17 +1,17 @@
 -- What a run that stops says, and when it does not stop.
-use Rattle.std.proofs.Common.{◌≡◌, inl, inr, ◌⊎◌, ℕ, List, [], refl, sym, subst}
+use Rattle.std.proofs.Common.{◌≡◌, ◌<◌, inl, inr, ◌⊎◌, ℕ, List, [], refl, sym, ap, subst, arith}
 use Rattle.std.specs.Prelude.{codes, Option}
 use Rattle.jute_core.specs.Faults.{Wrote}
 use Rattle.replay_cli.specs.declared.stops.Stop.{Stop}
 use Rattle.replay_cli.specs.declared.stops.Stop.TheVariants as stops
 use Rattle.replay_cli.specs.declared.stops.Status.{Status}
-use Rattle.replay_cli.specs.declared.stops.Status.TheVariants.{Done, WriteFault, Memory}
+use Rattle.replay_cli.specs.declared.stops.Status.TheVariants.{Done, WriteFault, Memory, HostFault, NumbersUsed}
 use Rattle.replay_cli.specs.Told.{Told}
 use Rattle.replay_cli.specs.Printed.{line}
 use Rattle.replay_cli.specs.Words.{Words, IsKeyed, IsFileOf, Fits}
 use Rattle.replay_cli.specs.Sinks.{ReportsFault, FailsToReport}
 use Rattle.replay_cli.specs.Run.{HasLong, HasBadKey, HasBadLine}
-use Rattle.replay_cli.specs.Stops.{Because, status_of, complaint_of, IsUnread, IsLine, Complains}
+use Rattle.replay_cli.specs.Stops.{Because, exit_status, status_of, complaint_of, IsUnread, IsLine, Complains}
 
 unread_file : (words : Words) (read : ℕ) (failed : Option ℕ) (name : List ℕ) → IsUnread words read failed name → IsFileOf words name
 unread_file words read failed name (inl (keyed, inl key)) = inl (keyed, inl key.0)
@@ -36,6 +36,8 @@ stop_complains (stops.TooLong name) words told read failed R before after why wr
 stop_complains (stops.KeyMalformed size) words told read failed R before after why wrote = (size, why.0, wrote)
 stop_complains (stops.ScriptMalformed number) words told read failed R before after why wrote = (number, line_keyed words told number why, wrote)
 stop_complains stops.Memory words told read failed R before after why wrote = wrote
+stop_complains stops.HostFault words told read failed R before after why wrote = absurd why
+stop_complains stops.NumbersUsed words told read failed R before after why wrote = absurd why
 
 -- what stands on the standard error after a stop
 pub complains : (stop : Stop) (words : Words) (told : List ℕ → Told) (read : ℕ) (failed : Option ℕ) (R : Type 0) (result : Status) (before after : Option (List ℕ))
@@ -55,6 +57,8 @@ is_line (stops.TooLong name) words told read failed R why = inr (inr (inl (name.
 is_line (stops.KeyMalformed size) words told read failed R why = inr (inr (inr (size, why.0, inl refl)))
 is_line (stops.ScriptMalformed number) words told read failed R why = inr (inr (inr (number, line_keyed words told number why, inr refl)))
 is_line stops.Memory words told read failed R why = inr (inl refl)
+is_line stops.HostFault words told read failed R why = absurd why
+is_line stops.NumbersUsed words told read failed R why = absurd why
 
 -- a write that failed was one of a line of the command
 pub reports_line : (stop : Stop) (words : Words) (told : List ℕ → Told) (read : ℕ) (failed : Option ℕ) (R : Type 0) (faults later : ℕ) (before after : Option (List ℕ))
@@ -78,3 +82,27 @@ completes (stops.TooLong name) words told read failed R W result why (inl e) fau
 completes (stops.KeyMalformed size) words told read failed R W result why (inl e) fault reads long key script read_well write_well = absurd (key size why)
 completes (stops.ScriptMalformed number) words told read failed R W result why (inl e) fault reads long key script read_well write_well = absurd (script number why)
 completes stops.Memory words told read failed R W result why (inl e) fault reads long key script read_well write_well = inr e
+completes stops.HostFault words told read failed R W result why (inl e) fault reads long key script read_well write_well = absurd why
+completes stops.NumbersUsed words told read failed R W result why (inl e) fault reads long key script read_well write_well = absurd why
+
+below : (result status : Status) → exit_status status < 9 → (result ≡ status) ⊎ (result ≡ Memory) ⊎ (result ≡ WriteFault) → exit_status result < 9
+below result status small (inl e) = omega (arith, ap exit_status e, small)
+below result status small (inr (inl e)) = omega (arith, ap exit_status e)
+below result status small (inr (inr e)) = omega (arith, ap exit_status e)
+
+own_status : (stop : Stop) (bad : Type 0) (unread long : List ℕ → Type 0) (key script : ℕ → Type 0) → Because stop bad unread long key script → exit_status (status_of stop) < 9
+own_status stops.BadWords bad unread long key script why = omega arith
+own_status (stops.Unread name) bad unread long key script why = omega arith
+own_status (stops.TooLong name) bad unread long key script why = omega arith
+own_status (stops.KeyMalformed size) bad unread long key script why = omega arith
+own_status (stops.ScriptMalformed number) bad unread long key script why = omega arith
+own_status stops.Memory bad unread long key script why = omega arith
+own_status stops.HostFault bad unread long key script why = absurd why
+own_status stops.NumbersUsed bad unread long key script why = absurd why
+
+-- a command that serves nobody has no status of a host
+pub serves_nobody : (stop : Stop) (bad : Type 0) (unread long : List ℕ → Type 0) (key script : ℕ → Type 0) (result : Status) → Because stop bad unread long key script
+    → (result ≡ status_of stop) ⊎ (result ≡ Memory) ⊎ (result ≡ WriteFault) → (result ≡ HostFault → ⊥) × (result ≡ NumbersUsed → ⊥)
+serves_nobody stop bad unread long key script result why status =
+    let small = below result (status_of stop) (own_status stop bad unread long key script why) status in
+    (λ e. omega (arith, ap exit_status e, small), λ e. omega (arith, ap exit_status e, small))

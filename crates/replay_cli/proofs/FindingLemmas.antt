@@ -2,7 +2,7 @@
 use Rattle.std.proofs.Common.{◌≡◌, ℕ, List, [], ◌∷◌, ◌++◌, sym, ap, ◌∙◌, append_assoc}
 use Rattle.std.proofs.lemmas.List.{append-nil}
 use Rattle.reply_rewrite.specs.declared.finding.Finding.{Finding}
-use Rattle.replay_cli.specs.Endings.{finding_text, findings_text}
+use Rattle.audit_board.specs.Findings.{finding_text, findings_text}
 
 pub findings_more : (findings : List Finding) (finding : Finding) → findings_text (findings ++ finding ∷ []) ≡ findings_text findings ++ finding_text finding
 unfolding findings_text

@@ -4,7 +4,7 @@ use Rattle.std.proofs.Math.Seq.{take-length}
 use Rattle.jute_core.specs.Faults.{Takes, HasCause}
 use Rattle.std.specs.Prelude.{IfErr}
 use Rattle.replay_cli.specs.declared.stops.Stop.{Stop}
-use Rattle.replay_cli.specs.declared.stops.Stop.TheVariants.{BadWords, Unread, TooLong, KeyMalformed, ScriptMalformed, Memory}
+use Rattle.replay_cli.specs.declared.stops.Stop.TheVariants.{BadWords, Unread, TooLong, KeyMalformed, ScriptMalformed, Memory, HostFault, NumbersUsed}
 use Rattle.replay_cli.specs.Told.{Told}
 use Rattle.replay_cli.specs.Sinks.{ReportsFault, fault_line}
 use Rattle.replay_cli.specs.Words.{Words, word, IsReplay, IsHostile, IsShow, IsSomeStress, IsKeyed, ReadsFiles, Fits}
@@ -23,6 +23,8 @@ script_stop (TooLong name) unread long bad f key script bytes k held h = absurd 
 script_stop (KeyMalformed size) unread long bad f key script bytes k held h = absurd h
 script_stop (ScriptMalformed number) unread long bad f key script bytes k held h = (k, (bytes, held, h))
 script_stop Memory unread long bad f key script bytes k held h = tt
+script_stop HostFault unread long bad f key script bytes k held h = absurd h
+script_stop NumbersUsed unread long bad f key script bytes k held h = absurd h
 
 pub script_stops : {T : Type 0} (r : Result T Stop) (unread long : List ℕ → Type 0) (bad : ℕ → Type 0) (IsFirstBad : List ℕ → ℕ → Type 0) (key script : Told) (bytes : List ℕ)
     → MayBe key IsKey → MayHold script bytes → IfErr r (λ stop. BecauseOfScript stop (IsFirstBad bytes)) → IfErr r (λ stop. Because stop ⊥ unread long bad (IsBadScript IsFirstBad key script))
@@ -56,6 +58,8 @@ replay_stop (TooLong name) words key script told read failed R is n h = inl (inl
 replay_stop (KeyMalformed size) words key script told read failed R is n h = (inl is, renamed words key script (λ k s. IsBadKey (told k) size) n h)
 replay_stop (ScriptMalformed number) words key script told read failed R is n h = inl (is, renamed words key script (λ k s. IsBadScript IsFirstBadLine (told k) (told s) number) n h)
 replay_stop Memory words key script told read failed R is n h = tt
+replay_stop HostFault words key script told read failed R is n h = absurd h
+replay_stop NumbersUsed words key script told read failed R is n h = absurd h
 
 -- the causes of a replay, in the words of its command line
 pub replay_stops : {T : Type 0} (r : Result T Stop) (words : Words) (key script : List ℕ) (told : List ℕ → Told) (read : ℕ) (failed : Option ℕ) (R : Type 0) → IsReplay words → key ≡ word words 1 → script ≡ word words 2
@@ -73,6 +77,8 @@ session_stop (TooLong name) words key script told read failed R is n h = inl (in
 session_stop (KeyMalformed size) words key script told read failed R is n h = (inr is, renamed words key script (λ k s. IsBadKey (told k) size) n h)
 session_stop (ScriptMalformed number) words key script told read failed R is n h = inr (is, renamed words key script (λ k s. IsBadScript IsFirstBadHostileLine (told k) (told s) number) n h)
 session_stop Memory words key script told read failed R is n h = tt
+session_stop HostFault words key script told read failed R is n h = absurd h
+session_stop NumbersUsed words key script told read failed R is n h = absurd h
 
 -- the causes of a session over a hostile script, in the words of its command line
 pub session_stops : {T : Type 0} (r : Result T Stop) (words : Words) (key script : List ℕ) (told : List ℕ → Told) (read : ℕ) (failed : Option ℕ) (R : Type 0) → IsHostile words → key ≡ word words 1 → script ≡ word words 2

@@ -3,7 +3,7 @@ use Rattle.std.specs.Prelude.{◌≡◌, ◌⊎◌, ℕ, ◌<◌, ◌≤◌, Lis
 use Rattle.std.specs.List.{find}
 use Rattle.std.specs.Io.KnownBytes.{Consumes, IsAtEnd}
 use Rattle.std.specs.Str.{bytes_eq}
-use Rattle.replay_cli.specs.Counts.{next, is_listed}
+use Rattle.audit_board.specs.Counts.{next, is_listed}
 use Rattle.replay_cli.specs.Told.{Told, untold, missing, holds, Agrees}
 use Rattle.replay_cli.specs.declared.files.FileFault.{FileFault}
 use Rattle.replay_cli.specs.declared.files.FileFault.TheVariants.{Failed, TooLong, Memory}

@@ -12,8 +12,10 @@ use Rattle.entry_session.specs.Calls.{AreOfClient, AreOfStore}
 use Rattle.entry_session.specs.declared.ending.Ending.{Ending}
 use Rattle.entry_session.specs.declared.ending.Ending.TheVariants as endings
 use Rattle.reply_rewrite.specs.declared.finding.Finding.{Finding}
-use Rattle.replay_cli.specs.Printed.{line, field, line_feed, bytes_text}
-use Rattle.replay_cli.specs.Endings.{session_text, findings_text}
+use Rattle.audit_board.specs.Fields.{field, line_feed}
+use Rattle.replay_cli.specs.Printed.{line, bytes_text}
+use Rattle.audit_board.specs.Findings.{findings_text}
+use Rattle.replay_cli.specs.Endings.{session_text}
 use Rattle.replay_cli.specs.declared.hostile_script.HostileEvent.{HostileEvent}
 use Rattle.replay_cli.specs.declared.hostile_script.HostileEvent.TheVariants.{Client, Store, ClientEnd, StoreEnd}
 

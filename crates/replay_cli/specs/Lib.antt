@@ -1,4 +1,3 @@
-pub mod Counts
 pub mod Sinks
 pub mod Told
 pub mod Files

@@ -2,6 +2,7 @@
 use Rattle.std.specs.Prelude.{ℕ, ℤ, ◌+◌, List, [], ◌∷◌, ◌++◌, length, codes}
 use Rattle.std.specs.Fmt.{decimal, signed_decimal}
 use Rattle.hex.specs.Hex.{encode_lower}
+use Rattle.audit_board.specs.Fields.{field, line_feed}
 use Rattle.store_side.specs.declared.entry.Entry.{Entry}
 use Rattle.store_side.specs.declared.entry.Entry.TheVariants.{Connect, Take, Lost, Expire}
 
@@ -13,13 +14,6 @@ line word text = word ++ text ++ 10 ∷ []
 abbrev pub bytes_text : List ℕ → List ℕ
 bytes_text [] = codes "-"
 bytes_text (b ∷ bs) = encode_lower (b ∷ bs)
-
--- a word and a value in a line
-unfoldable pub field : List ℕ → List ℕ → List ℕ
-field word text = word ++ text
-
-unfoldable pub line_feed : List ℕ
-line_feed = 10 ∷ []
 
 -- the line of the loss of a connection
 abbrev pub lost_text : ℕ → List ℕ

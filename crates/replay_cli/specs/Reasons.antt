@@ -4,7 +4,7 @@ use Rattle.std.specs.Fmt.{decimal}
 use Rattle.jute_core.specs.declared.cursor.Reason.{Reason}
 use Rattle.jute_core.specs.declared.cursor.Reason.TheVariants.{Short, BadLength, BadBool, BadUtf8, Trailing, BadType, BadXid, BadHeader}
 use Rattle.jute_core.specs.declared.cursor.Refusal.{Refusal}
-use Rattle.replay_cli.specs.Printed.{field}
+use Rattle.audit_board.specs.Fields.{field}
 
 unfoldable pub reason_name : Reason → List ℕ
 reason_name Short = codes "short"

@@ -15,7 +15,8 @@ use Rattle.zk_messages.specs.declared.request.Item.{Item}
 use Rattle.zk_messages.specs.declared.request.Item.TheVariants.{Asks, Requests}
 use Rattle.zk_messages.specs.declared.request.Request.{Request}
 use Rattle.zk_messages.specs.declared.request.Request.TheVariants as requests
-use Rattle.replay_cli.specs.Printed.{line, field, bytes_text}
+use Rattle.audit_board.specs.Fields.{field}
+use Rattle.replay_cli.specs.Printed.{line, bytes_text}
 use Rattle.replay_cli.specs.Reasons.{reason_name}
 use Rattle.replay_cli.specs.declared.show.Frame.{Frame}
 use Rattle.replay_cli.specs.declared.show.Ending.{Ending}

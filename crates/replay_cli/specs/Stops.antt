@@ -5,9 +5,10 @@ use Rattle.jute_core.specs.Faults.{Wrote}
 use Rattle.replay_cli.specs.declared.stops.Stop.{Stop}
 use Rattle.replay_cli.specs.declared.stops.Stop.TheVariants as stops
 use Rattle.replay_cli.specs.declared.stops.Status.{Status}
-use Rattle.replay_cli.specs.declared.stops.Status.TheVariants.{Done, BadWords, ReadFault, KeyMalformed, ScriptMalformed, InputTooLong, WriteFault, Memory}
-use Rattle.replay_cli.specs.Printed.{line, field}
-use Rattle.replay_cli.specs.Counts.{next}
+use Rattle.replay_cli.specs.declared.stops.Status.TheVariants.{Done, BadWords, ReadFault, KeyMalformed, ScriptMalformed, InputTooLong, WriteFault, Memory, HostFault, NumbersUsed}
+use Rattle.audit_board.specs.Fields.{field}
+use Rattle.replay_cli.specs.Printed.{line}
+use Rattle.audit_board.specs.Counts.{next}
 use Rattle.replay_cli.specs.Words.{Words, word, IsKeyed, IsShow, IsFileOf}
 
 abbrev pub exit_status : Status → ℕ
@@ -19,16 +20,24 @@ exit_status ScriptMalformed = 5
 exit_status WriteFault = 6
 exit_status Memory = 7
 exit_status InputTooLong = 8
+exit_status HostFault = 9
+exit_status NumbersUsed = 10
 
 -- A cause for each stop but want of memory: a file that was not read, or is too long, is told by its name, a malformed key by its size,
--- and a malformed script by the number of its first bad line.
+-- and a malformed script by the number of its first bad line. The last two are those of a command that serves.
+abbrev pub BecauseServing : Stop → Type 0 → (List ℕ → Type 0) → (List ℕ → Type 0) → (ℕ → Type 0) → (ℕ → Type 0) → Type 0 → Type 0 → Type 0
+BecauseServing stops.BadWords bad unread long key script host numbers = bad
+BecauseServing (stops.Unread name) bad unread long key script host numbers = unread name.now
+BecauseServing (stops.TooLong name) bad unread long key script host numbers = long name.now
+BecauseServing (stops.KeyMalformed size) bad unread long key script host numbers = key size
+BecauseServing (stops.ScriptMalformed number) bad unread long key script host numbers = script number
+BecauseServing stops.Memory bad unread long key script host numbers = Unit {0}
+BecauseServing stops.HostFault bad unread long key script host numbers = host
+BecauseServing stops.NumbersUsed bad unread long key script host numbers = numbers
+
+-- of a command that serves nobody
 abbrev pub Because : Stop → Type 0 → (List ℕ → Type 0) → (List ℕ → Type 0) → (ℕ → Type 0) → (ℕ → Type 0) → Type 0
-Because stops.BadWords bad unread long key script = bad
-Because (stops.Unread name) bad unread long key script = unread name.now
-Because (stops.TooLong name) bad unread long key script = long name.now
-Because (stops.KeyMalformed size) bad unread long key script = key size
-Because (stops.ScriptMalformed number) bad unread long key script = script number
-Because stops.Memory bad unread long key script = Unit {0}
+Because stop bad unread long key script = BecauseServing stop bad unread long key script ⊥ ⊥
 
 -- of a file that is read
 abbrev pub BecauseOfFile : Stop → (List ℕ → Type 0) → (List ℕ → Type 0) → Type 0
@@ -45,6 +54,8 @@ status_of (stops.TooLong name) = InputTooLong
 status_of (stops.KeyMalformed size) = KeyMalformed
 status_of (stops.ScriptMalformed number) = ScriptMalformed
 status_of stops.Memory = Memory
+status_of stops.HostFault = HostFault
+status_of stops.NumbersUsed = NumbersUsed
 
 abbrev pub unread_line : List ℕ → List ℕ
 unread_line name = line (codes "cannot read ") name
@@ -66,6 +77,8 @@ complaint_of (stops.TooLong name) = too_long_line name.now
 complaint_of (stops.KeyMalformed size) = bad_key_line size
 complaint_of (stops.ScriptMalformed number) = bad_script_line number
 complaint_of stops.Memory = line (codes "no memory") []
+complaint_of stops.HostFault = line (codes "host fault") []
+complaint_of stops.NumbersUsed = line (codes "connection numbers used") []
 
 -- The file whose read failed last, of a key and a script: the key, of which the read has this number, or the script, whose read is the
 -- next one.
@@ -93,4 +106,6 @@ Complains words InputTooLong before after = (name : List ℕ) × IsFileOf words 
 Complains words KeyMalformed before after = (size : ℕ) × IsKeyed words × Wrote before after (bad_key_line size)
 Complains words ScriptMalformed before after = (number : ℕ) × IsKeyed words × Wrote before after (bad_script_line number)
 Complains words Memory before after = Wrote before after (line (codes "no memory") [])
+Complains words HostFault before after = ⊥
+Complains words NumbersUsed before after = ⊥
 Complains words WriteFault before after = Unit {0}

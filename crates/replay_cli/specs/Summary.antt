@@ -9,7 +9,7 @@ use Rattle.jute_core.specs.Jute.{int_bytes}
 use Rattle.payload_seal.specs.declared.keys.EntryKeys.{EntryKeys}
 use Rattle.entry_session.specs.Sides.{bytes_of}
 use Rattle.world_core.specs.Moments.{Moment}
-use Rattle.replay_cli.specs.Counts.{next}
+use Rattle.audit_board.specs.Counts.{next}
 use Rattle.replay_cli.specs.Hostile.{IsKeysOf}
 use Rattle.replay_cli.specs.Printed.{line}
 use Rattle.replay_cli.specs.Workload.{IsWorkload, word_of}

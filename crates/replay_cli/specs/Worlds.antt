@@ -14,7 +14,8 @@ use Rattle.world_core.specs.Moments.{IsSoundMoment, Moment, opening, sent_by}
 use Rattle.world_core.specs.Standing.{IsNew}
 use Rattle.world_core.specs.Steps.{Cut as CutOff, Down as GoDown, Drains, IsAllDrained, Sent, Ticks, Up as GoUp, added, timed}
 use Rattle.world_core.specs.Laws.{HasAll, Holds}
-use Rattle.replay_cli.specs.Printed.{line, field, line_feed, bytes_text, order_text}
+use Rattle.audit_board.specs.Fields.{field, line_feed}
+use Rattle.replay_cli.specs.Printed.{line, bytes_text, order_text}
 use Rattle.replay_cli.specs.Endings.{session_text, store_text}
 use Rattle.replay_cli.specs.Script.{IsOpen, IsTime, opened, opened_by}
 use Rattle.replay_cli.specs.declared.script.Event.{Event}

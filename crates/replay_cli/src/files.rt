@@ -3,7 +3,7 @@
 ghost use Rattle.std.specs.Prelude.{◌≡◌, ℕ, ◌+◌, ◌≤◌, List, [], Option, Some, None, IsErrOf, IfOk, IfErr, length};
 ghost use Rattle.std.specs.Option.{option_copied};
 ghost use Rattle.jute_core.specs.Faults.{Rose};
-ghost use Rattle.replay_cli.specs.Counts.{next};
+ghost use Rattle.audit_board.specs.Counts.{next};
 ghost use Rattle.replay_cli.specs.Told.{Told, untold};
 ghost use Rattle.replay_cli.specs.Files.{ReadsFile, FailsAs, ReadsIn, GivesPart, told_left, told_under, first_named};
 

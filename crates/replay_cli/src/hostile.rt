@@ -10,12 +10,12 @@ ghost use Rattle.replay_cli.specs.Playing.{IsAt, Goes};
 ghost use Rattle.replay_cli.specs.Run.{IsHostileText, IsLongOf, IsBadKey, IsBadScript};
 ghost use Rattle.replay_cli.specs.Stops.{Because, BecauseOfScript, IsUnreadOf};
 
+use crate::endings::push_session;
 use crate::files::Files;
-use crate::findings::{push_findings, push_session};
 use crate::hostile_script::{HostileEvent, read_hostile_script};
 use crate::lines::NotScript;
 use crate::loading::load_keyed;
-use crate::printed::{bytes_text, end_line, push_field, push_line};
+use crate::printed::{bytes_text, end_line, push_field, push_findings, push_line};
 use crate::stops::Stop;
 use entry_session::{Ending, Session};
 use jute_core::Memory;
@@ -127,7 +127,7 @@ fn text_of_session(
     push_line(&mut text, "received ", received.as_str())?;
     push_line(&mut text, "handed ", handed.as_str())?;
     push_line(&mut text, "findings ", count.as_str())?;
-    push_findings(alloc, &mut text, findings)?;
+    push_findings(&mut text, findings)?;
     Ok(text)
 }
 

@@ -1,13 +1,14 @@
 //! The program's top calls, over files and sinks that are handed in.
 //!
 //! `run` reads the words of a command line, the files that they name, and prints what the command gives. It stands on
-//! `world_core` for replays, on `entry_session` for hostile scripts, on `jute_core` for the small types and on `hex` for
-//! printed bytes. Read first: `run`, then `read_script`, then the traits `Files` and `Sink`, which are all that it knows of
-//! the outside.
+//! `world_core` for replays, on `entry_session` for hostile scripts, on `audit_board` for sinks and the lines of findings,
+//! on `jute_core` for the small types and on `hex` for printed bytes. A crate above it that serves clients shares its
+//! files, statuses and complaints. Read first: `run`, then `read_script`, then the traits `Files` and `Sink`, which are all
+//! that it knows of the outside.
 #![tactic(auto)]
 
+mod endings;
 mod files;
-mod findings;
 mod hostile;
 mod hostile_script;
 mod lines;
@@ -17,7 +18,6 @@ mod printed;
 mod replay;
 mod script;
 mod show;
-mod sinks;
 mod stops;
 mod stress;
 mod tally;
@@ -25,14 +25,16 @@ mod top_call;
 mod words;
 mod workload;
 
+pub use audit_board::{Failed, MemorySink, Sink, StdSink};
 pub use files::{FileFault, Files, MemoryFiles, NamedFile, RealFiles};
 pub use hostile_script::{HostileEvent, HostileEvents, read_hostile_script};
 pub use lines::NotScript;
+pub use loading::load;
+pub use numbers::number_of;
 pub use script::{Event, Events, read_script};
 pub use show::{Ending, Frame, one_show, show_frames};
-pub use sinks::{Failed, MemorySink, Sink, StdSink};
-pub use stops::Status;
-pub use top_call::{run, say_no_memory};
+pub use stops::{Status, Stop, complaint, status_of};
+pub use top_call::{complain, run, say_no_memory};
 
 #[cfg(test)]
 mod tests;

@@ -2,7 +2,7 @@
 
 ghost use Rattle.std.specs.Prelude.{◌≡◌, ℕ, ◌≤◌, List, Some, IfOk, IfErr};
 ghost use Rattle.jute_core.specs.Faults.{Rose};
-ghost use Rattle.replay_cli.specs.Counts.{next};
+ghost use Rattle.audit_board.specs.Counts.{next};
 ghost use Rattle.replay_cli.specs.Hostile.{IsKeysOf};
 ghost use Rattle.replay_cli.specs.Run.{MayHold, IsTooLong, IsKey, MayBe, IsLongOf, IsBadKey};
 ghost use Rattle.replay_cli.specs.Stops.{Because, BecauseOfFile, IsUnreadOf};

@@ -2,10 +2,14 @@
 
 ghost use Rattle.std.specs.Prelude.{◌≡◌, ◌++◌, IfOk, OnOk, string_bytes};
 ghost use Rattle.std.specs.Fmt.{decimal, signed_decimal};
-ghost use Rattle.replay_cli.specs.Printed.{line, bytes_text, field, line_feed, entry_text, lost_text, expire_text, entries_text, order_text};
+ghost use Rattle.audit_board.specs.Fields.{field, line_feed};
+ghost use Rattle.audit_board.specs.Findings.{finding_text, findings_text};
+ghost use Rattle.replay_cli.specs.Printed.{line, bytes_text, entry_text, lost_text, expire_text, entries_text, order_text};
 ghost use Rattle.replay_cli.specs.Reasons.{reason_name, refusal_text};
 
+use audit_board::line_of;
 use jute_core::{Memory, Reason, Refusal};
+use reply_rewrite::Finding;
 use std::alloc::{AllocError, Global};
 use store_side::Entry;
 
@@ -33,7 +37,7 @@ pub fn push_line(into: &mut String, word: &str, value: &str) -> Result<(), Memor
 }
 
 /// Appends a word and a value.
-#[tactic(auto, unfolding(crate::specs::Printed::field))]
+#[tactic(auto, unfolding(audit_board::specs::Fields::field))]
 pub fn push_field(into: &mut String, word: &str, value: &str) -> Result<(), Memory>
     ensures { OnOk result
         (string_bytes into.new ≡ string_bytes into.old ++ field word.now value.now) }
@@ -104,7 +108,7 @@ pub fn push_refusal(
 }
 
 /// Ends a line.
-#[tactic(auto, unfolding(crate::specs::Printed::line_feed))]
+#[tactic(auto, unfolding(audit_board::specs::Fields::line_feed))]
 pub fn end_line(into: &mut String) -> Result<(), Memory>
     ensures { OnOk result (string_bytes into.new ≡ string_bytes into.old ++ line_feed) }
 {
@@ -206,6 +210,27 @@ fn push_entries(alloc: Global, into: &mut String, order: &[Entry]) -> Result<(),
 {
     for entry in order {
         push_entry(alloc, into, entry)?;
+    }
+    Ok(())
+}
+
+// Appends the line of a finding.
+fn push_finding(into: &mut String, finding: &Finding) -> Result<(), Memory>
+    ensures { OnOk result
+        (string_bytes into.new ≡ string_bytes into.old ++ finding_text finding.now) }
+{
+    let line = line_of(finding);
+    into.push_str(line.as_str())?;
+    Ok(())
+}
+
+/// Appends a line for each finding.
+pub fn push_findings(into: &mut String, findings: &[Finding]) -> Result<(), Memory>
+    ensures { OnOk result
+        (string_bytes into.new ≡ string_bytes into.old ++ findings_text findings.now) }
+{
+    for finding in findings {
+        push_finding(into, finding)?;
     }
     Ok(())
 }

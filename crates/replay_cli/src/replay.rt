@@ -14,8 +14,8 @@ ghost use Rattle.replay_cli.specs.Worlds.{AllHappen, Happens, IsFirstPast, MayFo
 ghost use Rattle.replay_cli.specs.Run.{IsReplayText, IsLongOf, IsBadKey, IsBadScript};
 ghost use Rattle.replay_cli.specs.Stops.{Because, BecauseOfScript, IsUnreadOf};
 
+use crate::endings::{push_session, push_store};
 use crate::files::Files;
-use crate::findings::{push_session, push_store};
 use crate::lines::NotScript;
 use crate::loading::load_keyed;
 use crate::printed::{bytes_text, end_line, push_field, push_line, push_order};

@@ -26,6 +26,10 @@ pub enum Status {
     WriteFault,
     /// There was no memory.
     Memory,
+    /// The host failed. Only a command that serves ends so.
+    HostFault,
+    /// Each number of a connection was given. Only a command that serves ends so.
+    NumbersUsed,
 }
 
 impl Status {
@@ -42,6 +46,8 @@ impl Status {
             Status::WriteFault => 6,
             Status::Memory => 7,
             Status::InputTooLong => 8,
+            Status::HostFault => 9,
+            Status::NumbersUsed => 10,
         }
     }
 }
@@ -61,6 +67,10 @@ pub enum Stop<'a> {
     ScriptMalformed(u64),
     /// There was no memory.
     Memory,
+    /// The host failed.
+    HostFault,
+    /// Each number of a connection was given.
+    NumbersUsed,
 }
 
 /// What is said of a stop, or that there is no memory to say it.
@@ -82,6 +92,8 @@ pub fn complaint(alloc: Global, stop: Stop<'_>) -> Result<String, Memory>
             push_line(&mut text, "script line ", number.as_str())?;
         }
         Stop::Memory => push_line(&mut text, "no memory", "")?,
+        Stop::HostFault => push_line(&mut text, "host fault", "")?,
+        Stop::NumbersUsed => push_line(&mut text, "connection numbers used", "")?,
     }
     Ok(text)
 }
@@ -97,5 +109,7 @@ pub fn status_of(stop: Stop<'_>) -> Status
         Stop::KeyMalformed(_) => Status::KeyMalformed,
         Stop::ScriptMalformed(_) => Status::ScriptMalformed,
         Stop::Memory => Status::Memory,
+        Stop::HostFault => Status::HostFault,
+        Stop::NumbersUsed => Status::NumbersUsed,
     }
 }

@@ -13,10 +13,10 @@ use crate::hostile::hostile;
 use crate::loading::load;
 use crate::replay::replay;
 use crate::show::show_frames;
-use crate::sinks::Sink;
 use crate::stops::{Status, Stop, complaint, status_of};
 use crate::stress::stress;
 use crate::words::{Command, command_of};
+use audit_board::Sink;
 use std::alloc::Global;
 
 // The text that is shown of a file, or why there is none.
@@ -126,8 +126,8 @@ pub fn say_no_memory<E: Sink>(err: &mut E) -> Status
     say(Status::Memory, b"no memory\n", err)
 }
 
-// Says why a run stopped, and answers its status.
-fn complain<E: Sink>(alloc: Global, stop: Stop<'_>, err: &mut E) -> Status
+/// Says why a run stopped, and answers its status.
+pub fn complain<E: Sink>(alloc: Global, stop: Stop<'_>, err: &mut E) -> Status
     ensures status { (result ≡ status_of stop.entry) ⊎ (result ≡ Status.Memory)
         ⊎ (result ≡ Status.WriteFault) }
     ensures stopped { result ≡ status_of stop.entry
@@ -214,6 +214,8 @@ pub fn run<F: Files, K: Sink, E: Sink>(
     ensures quiet { result ≢ Status.Done → result ≢ Status.WriteFault
         → K.taken out.new ≡ K.taken out.old }
     ensures complains { Complains words.now result (E.taken err.old) (E.taken err.new) }
+    // It serves nobody.
+    ensures own { (result ≡ Status.HostFault → ⊥) × (result ≡ Status.NumbersUsed → ⊥) }
     // Where no cause holds and nothing fails, it is done but for memory.
     ensures complete { Fits words.now
         → ((name : List ℕ) → HasLong words.now (F.told files.old) name → ⊥)

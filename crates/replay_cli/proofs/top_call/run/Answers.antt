@@ -1,5 +1,5 @@
 use Rattle.replay_cli.proofs.CauseLemmas.{key_prints, key_ends, line_prints, line_ends}
-use Rattle.replay_cli.proofs.EndLemmas.{complains, reports_line, completes}
+use Rattle.replay_cli.proofs.EndLemmas.{complains, reports_line, completes, serves_nobody}
 use Rattle.replay_cli.proofs.top_call.run.Goals as goal
 
 pub returns-in-Ok-clause-bad_key : goal.returns-in-Ok-clause-bad_key
@@ -23,3 +23,6 @@ returns-in-Err-clause-complains g c = complains _ c.args.words.now (g.F.Files.to
 pub returns-in-Err-clause-complete : goal.returns-in-Err-clause-complete
 returns-in-Err-clause-complete g c = λ reads long key script read_well out_well err_well.
     completes _ c.args.words.now (g.F.Files.told c.args.files.now) _ _ _ _ _ c.in-Err.ensures.err c.complain.ensures.status c.complain.ensures.fault reads long key script read_well err_well
+
+pub returns-in-Err-clause-own : goal.returns-in-Err-clause-own
+returns-in-Err-clause-own g c = serves_nobody _ _ _ _ _ _ _ c.in-Err.ensures.err c.complain.ensures.status

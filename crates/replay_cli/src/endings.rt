@@ -1,13 +1,11 @@
-//! How endings and findings are printed.
+//! How endings are printed.
 
 ghost use Rattle.std.specs.Prelude.{◌≡◌, ◌++◌, OnOk, string_bytes};
-ghost use Rattle.replay_cli.specs.Endings.{event_flaw_text, ending_text, session_text, over_text, store_text, flaw_text, cause_text, finding_text, findings_text};
+ghost use Rattle.replay_cli.specs.Endings.{event_flaw_text, ending_text, session_text, over_text, store_text};
 
-use crate::printed::{end_line, push_count, push_field, push_int, push_number, push_refusal};
+use crate::printed::{push_count, push_field, push_int, push_number, push_refusal};
 use entry_session::Ending;
 use jute_core::Memory;
-use payload_seal::Flaw;
-use reply_rewrite::{Cause, Finding};
 use std::alloc::Global;
 use store_side::StoreEnding;
 use watch_rewrite::EventFlaw;
@@ -101,75 +99,6 @@ pub fn push_store(
     match ending {
         Some(ending) => push_over(alloc, into, ending)?,
         None => push_field(into, "open", "")?,
-    }
-    Ok(())
-}
-
-fn push_flaw(alloc: Global, into: &mut String, flaw: Flaw) -> Result<(), Memory>
-    ensures { OnOk result (string_bytes into.new ≡ string_bytes into.old ++ flaw_text flaw) }
-{
-    match flaw {
-        Flaw::Short { length } => push_count(alloc, into, "payload short ", length as u64)?,
-        Flaw::UnknownEpoch { epoch } => {
-            push_count(alloc, into, "payload unknown-epoch ", epoch as u64)?
-        }
-        Flaw::BadTag => push_field(into, "payload bad-tag", "")?,
-        Flaw::BadFlag { flag } => push_count(alloc, into, "payload bad-flag ", flag as u64)?,
-        Flaw::WrongPath { sealed, asked } => {
-            let sealed = hex::encode(alloc, sealed.as_slice())?;
-            let asked = hex::encode(alloc, asked.as_slice())?;
-            push_field(into, "payload wrong-path ", sealed.as_str())?;
-            push_field(into, " ", asked.as_str())?;
-        }
-    }
-    Ok(())
-}
-
-// Appends what was wrong with a reply.
-fn push_cause(alloc: Global, into: &mut String, cause: Cause) -> Result<(), Memory>
-    ensures { OnOk result (string_bytes into.new ≡ string_bytes into.old ++ cause_text cause) }
-{
-    match cause {
-        Cause::Payload(flaw) => push_flaw(alloc, into, flaw)?,
-        Cause::Length { stored } => push_int(alloc, into, "length ", stored)?,
-        Cause::NullChildren => push_field(into, "null-children", "")?,
-        Cause::Child { index } => push_count(alloc, into, "child ", index as u64)?,
-        Cause::Doubled { index } => push_count(alloc, into, "doubled ", index as u64)?,
-        Cause::Created => push_field(into, "created", "")?,
-        Cause::SyncPath => push_field(into, "sync-path", "")?,
-        Cause::Acl => push_field(into, "acl", "")?,
-        Cause::MultiCount { asked, got } => {
-            push_count(alloc, into, "multi-count ", asked as u64)?;
-            push_count(alloc, into, " ", got as u64)?;
-        }
-        Cause::MultiKind { index } => push_count(alloc, into, "multi-kind ", index as u64)?,
-        Cause::MultiCreated { index } => push_count(alloc, into, "multi-created ", index as u64)?,
-        Cause::MultiLength { index } => push_count(alloc, into, "multi-length ", index as u64)?,
-    }
-    Ok(())
-}
-
-// Appends the line of a finding.
-fn push_finding(alloc: Global, into: &mut String, finding: &Finding) -> Result<(), Memory>
-    ensures { OnOk result
-        (string_bytes into.new ≡ string_bytes into.old ++ finding_text finding.now) }
-{
-    push_count(alloc, into, "finding ", finding.connection as u64)?;
-    push_count(alloc, into, " reply ", finding.reply)?;
-    push_int(alloc, into, " xid ", finding.xid)?;
-    push_field(into, " ", "")?;
-    push_cause(alloc, into, finding.cause)?;
-    end_line(into)?;
-    Ok(())
-}
-
-/// Appends a line for each finding.
-pub fn push_findings(alloc: Global, into: &mut String, findings: &[Finding]) -> Result<(), Memory>
-    ensures { OnOk result
-        (string_bytes into.new ≡ string_bytes into.old ++ findings_text findings.now) }
-{
-    for finding in findings {
-        push_finding(alloc, into, finding)?;
     }
     Ok(())
 }

@@ -1,7 +1,7 @@
 use Rattle.std.proofs.Common.{refl, append_assoc, rules, w32}
 use Rattle.std.specs.Int.RustNames.{FitsSigned}
 use Rattle.std.proofs.lemmas.Int.{to_z-of_z}
-use Rattle.replay_cli.proofs.findings.push_ending.Goals as goal
+use Rattle.replay_cli.proofs.endings.push_ending.Goals as goal
 
 pub returns-in_ok-push_refusal-in-ClientMalformed : goal.returns-in_ok-push_refusal-in-ClientMalformed
 returns-in_ok-push_refusal-in-ClientMalformed c = rw (c.in-ClientMalformed.is, c.in_ok-push_refusal-in-ClientMalformed.ensures) refl

@@ -4,9 +4,9 @@ use Rattle.std.proofs.lemmas.List.{take_more}
 use Rattle.payload_seal.specs.declared.opening.Flaw.TheVariants.{Short}
 use Rattle.reply_rewrite.specs.declared.finding.Cause.TheVariants.{Payload}
 use Rattle.reply_rewrite.specs.declared.finding.Finding.{Finding}
-use Rattle.replay_cli.specs.Endings.{finding_text, findings_text}
+use Rattle.audit_board.specs.Findings.{finding_text, findings_text}
 use Rattle.replay_cli.proofs.FindingLemmas.{findings_more, no_findings}
-use Rattle.replay_cli.proofs.findings.push_findings.Goals as goal
+use Rattle.replay_cli.proofs.printed.push_findings.Goals as goal
 
 pub loop-finding-init : goal.loop-finding-init
 loop-finding-init c = no_findings _
