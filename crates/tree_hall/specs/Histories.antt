@@ -1,5 +1,5 @@
 -- Histories: the calls of all passes, in the order in which the store did them, and what a store may answer at each point.
-use Rattle.std.specs.Prelude.{◌≡◌, ◌⊎◌, ℕ, ℤ, ◌+◌, ◌-◌, ◌^◌, List, [], ◌∷◌, ◌++◌, ◌==◌, cond, length, take, min, true, false, Option, Some, None, Result, Ok, Err, MatchResult}
+use Rattle.std.specs.Prelude.{◌≡◌, ◌⊎◌, ℕ, ℤ, ◌+◌, ◌-◌, ◌^◌, ◌≤◌, List, [], ◌∷◌, ◌++◌, ◌==◌, cond, length, take, min, true, false, Option, Some, None, Result, Ok, Err, IfOk, MatchResult}
 use Rattle.store_side.specs.Past.{Past as Went}
 use Rattle.tree_state.specs.Step as machine
 use Rattle.store_side.specs.Follows.{IsAdmitted, IsSound}
@@ -54,6 +54,18 @@ Allows past (Lose c) result new = IsAdmitted past c × (result ≡ Ok answers.Go
 Allows past (Tick now) result new = MatchResult result
     (λ a. (a ≡ answers.Ticked) × Ticked now past new true)
     (λ e. (e ≡ endings.Memory) × Ticked now past new false)
+
+-- ---- which kind of answer an act has, whatever its store and its past
+
+-- the kind of answer that an act has
+abbrev pub Answers : Act → Result Answer StoreEnding → Type 0
+Answers Admit result = IfOk result (λ a. (c : ℕ) × (a ≡ answers.Admitted c))
+Answers (Feed c now piece) result = IfOk result (λ a. a ≡ answers.Fed)
+Answers (Pull c limit) result = MatchResult result
+    (λ a. (bytes : List ℕ) × (a ≡ answers.Pulled bytes) × (length bytes ≤ limit))
+    (λ e. e ≡ endings.Memory)
+Answers (Lose c) result = result ≡ Ok answers.Gone
+Answers (Tick now) result = MatchResult result (λ a. a ≡ answers.Ticked) (λ e. e ≡ endings.Memory)
 
 -- ---- histories
 

@@ -2,7 +2,7 @@
 ghost use Rattle.std.specs.Prelude.{◌≡◌, ◌<◌, List, [], ◌∷◌, ◌++◌, IfOk, IfErr, IsOk};
 ghost use Rattle.store_side.specs.Past.{Past as Went};
 ghost use Rattle.tree_hall.specs.declared.view.Item.{Item};
-ghost use Rattle.tree_hall.specs.Histories.{IsPlayed, LeadsTo, StartsWith, Named, IsTimely, calls_by};
+ghost use Rattle.tree_hall.specs.Histories.{Answers, IsPlayed, LeadsTo, StartsWith, Named, IsTimely, calls_by};
 ghost use Rattle.tree_hall.specs.Passes.{IsPassOf, IsWhole, seen_by, calls_of, number_of, call_of, view_of};
 
 use crate::act::{Act, Answer, Call};
@@ -83,6 +83,7 @@ impl<S: StoreSide + Drop, B: Bells + Drop> Hall<S, B> {
         requires pass { IsPassOf self.now.table.shared.table_id pass.old }
         requires named { Named (seen_by pass.old) act }
         requires time { IsTimely act }
+        ensures kind { Answers act result }
         ensures same { IsPassOf self.now.table.shared.table_id pass.new × (number_of pass.new ≡ number_of pass.old) }
         ensures seen { (between : List Item) × (seen_by pass.new ≡ (seen_by pass.old ++ between) ++ call_of pass.old act result ∷ []) }
         ensures calls { calls_of pass.new ≡ calls_of pass.old ++ call_of pass.old act result ∷ [] }

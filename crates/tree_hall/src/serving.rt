@@ -3,7 +3,7 @@ ghost use Rattle.std.specs.Prelude.{◌≡◌, []};
 ghost use Rattle.store_side.specs.Past.{Past as Went};
 ghost use Rattle.store_side.specs.Follows.{IsAdmitted};
 ghost use Rattle.store_side.specs.Owed.{IsTime};
-ghost use Rattle.tree_hall.specs.Histories.{Allows, IsTimely, Knows};
+ghost use Rattle.tree_hall.specs.Histories.{Allows, Answers, IsTimely, Knows};
 ghost use Rattle.tree_hall.specs.declared.act.Act.TheVariants.{Admit, Feed, Pull, Lose, Tick};
 
 use crate::act::{Act, Answer};
@@ -28,7 +28,8 @@ pub(crate) fn room(alloc: Global, act: &Act) -> Vec<u8>
 }
 
 fn admit<S: StoreSide>(store: &mut S) -> Result<Answer, StoreEnding>
-    ensures { (past : Went) → S.stands store.old past → (new : Went) × Allows past Admit result new × S.stands store.new new }
+    ensures kind { Answers Admit result }
+    ensures allowed { (past : Went) → S.stands store.old past → (new : Went) × Allows past Admit result new × S.stands store.new new }
 {
     let connection = store.admit()?;
     Ok(Answer::Admitted { connection })
@@ -41,7 +42,8 @@ fn feed<S: StoreSide>(
     piece: &Bytes,
 ) -> Result<Answer, StoreEnding>
     requires { IsTime now }
-    ensures { (past : Went) → S.stands store.old past → IsAdmitted past connection
+    ensures kind { Answers (Feed connection now piece.now) result }
+    ensures allowed { (past : Went) → S.stands store.old past → IsAdmitted past connection
         → (new : Went) × Allows past (Feed connection now piece.now) result new × S.stands store.new new }
 {
     store.feed(connection, now, piece.as_slice())?;
@@ -55,15 +57,19 @@ fn pull<S: StoreSide>(
     mut into: Vec<u8>,
 ) -> Result<Answer, StoreEnding>
     requires { into.items ≡ [] }
-    ensures { (past : Went) → S.stands store.old past → IsAdmitted past connection
+    ensures kind { Answers (Pull connection limit) result }
+    ensures allowed { (past : Went) → S.stands store.old past → IsAdmitted past connection
         → (new : Went) × Allows past (Pull connection limit) result new × S.stands store.new new }
 {
     store.pull(connection, limit, &mut into)?;
+    // No more than that came, but a store that stands at no past does not say so.
+    into.truncate(limit);
     Ok(Answer::Pulled(Bytes::of(into)))
 }
 
 fn lose<S: StoreSide>(store: &mut S, connection: u32) -> Result<Answer, StoreEnding>
-    ensures { (past : Went) → S.stands store.old past → IsAdmitted past connection
+    ensures kind { Answers (Lose connection) result }
+    ensures allowed { (past : Went) → S.stands store.old past → IsAdmitted past connection
         → (new : Went) × Allows past (Lose connection) result new × S.stands store.new new }
 {
     store.lose(connection);
@@ -72,7 +78,8 @@ fn lose<S: StoreSide>(store: &mut S, connection: u32) -> Result<Answer, StoreEnd
 
 fn tick<S: StoreSide>(store: &mut S, now: i64) -> Result<Answer, StoreEnding>
     requires { IsTime now }
-    ensures { (past : Went) → S.stands store.old past → (new : Went) × Allows past (Tick now) result new × S.stands store.new new }
+    ensures kind { Answers (Tick now) result }
+    ensures allowed { (past : Went) → S.stands store.old past → (new : Went) × Allows past (Tick now) result new × S.stands store.new new }
 {
     store.tick(now)?;
     Ok(Answer::Ticked)
@@ -86,7 +93,8 @@ pub(crate) fn perform<S: StoreSide>(
 ) -> Result<Answer, StoreEnding>
     requires time { IsTimely act.now }
     requires room { into.items ≡ [] }
-    ensures { (past : Went) → S.stands store.old past → Knows past act.now → (new : Went) × Allows past act.now result new × S.stands store.new new }
+    ensures kind { Answers act.now result }
+    ensures allowed { (past : Went) → S.stands store.old past → Knows past act.now → (new : Went) × Allows past act.now result new × S.stands store.new new }
 {
     match act {
         Act::Admit => admit(store),

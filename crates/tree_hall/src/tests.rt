@@ -10,8 +10,8 @@ use std::alloc::Global;
 use std::sync::atomic::{AtomicU64, Ordering};
 use std::sync::{Arc, Wait};
 use std::test::Fail;
-use std::thread;
-use std::thread::Threads;
+use std::thread::{JoinHandle, Threads};
+use std::{io, thread};
 use store_side::{StoreEnding, StoreSide};
 
 // A store that adds up the times of its ticks. It stands at no past, so its calls promise nothing.
@@ -164,16 +164,77 @@ fn shared_sum<R: Threads + Wait + Sync>(
     }
 }
 
-// How many passes are missing where one was dropped by a holder of an `Arc` of the hall, which could go to any thread.
-fn missing_after_drop<R: Wait>(rt: &R, alloc: Global) -> Result<u64, Fail> {
+// A pass with the hall that it is of, for a thread of its own.
+#[derive(Drop)]
+struct Job<S: StoreSide + Drop, B: Bells + Drop, R: Wait> {
+    rt: R,
+    hall: Arc<Hall<S, B>>,
+    pass: Pass,
+    acts: u32,
+    ghost ours: { IsPassOf hall.value.table.shared.table_id pass },
+}
+
+impl<S: StoreSide + Drop, B: Bells + Drop, R: Wait + Drop> Job<S, B, R> {
+    // Ticks at each of the times below `acts`.
+    fn run(self) {
+        let Job {
+            rt,
+            hall,
+            mut pass,
+            acts,
+        } = self;
+        for now in 0..acts {
+            let _ = hall.act(&rt, &mut pass, Act::Tick { now: now as i64 });
+        }
+    }
+}
+
+// Runs a job on a thread of its own. Its parts are moved there one by one: a proof finds of each that it may be.
+fn start<
+    S: StoreSide + Send + Drop + 'static,
+    B: Bells + Send + Sync + Drop + 'static,
+    R: Wait + Send + Drop + 'static,
+    T: Threads,
+>(rt: &T, job: Job<S, B, R>) -> io::Result<JoinHandle<()>> {
+    let Job {
+        rt: own,
+        hall,
+        pass,
+        acts,
+    } = job;
+    hall.crosses();
+    moves(&hall);
+    let work = move || -> ()
+        requires { IsPassOf hall.value.table.shared.table_id pass }
+    {
+        let job = Job {
+            rt: own,
+            hall,
+            pass,
+            acts,
+        };
+        job.run();
+    };
+    Ok(thread::spawn(rt, work)?)
+}
+
+// How many passes are missing where a thread dropped one.
+fn missing_after_drop<R: Threads + Wait + Copy + Send + Drop + 'static>(
+    rt: &R,
+    alloc: Global,
+) -> Result<u64, Fail> {
     let (hall, mut pass) = Hall::new(alloc, Sums::new(), NoBells)?;
     let other = hall.split(rt, &mut pass)?;
     hall.crosses();
     let hall = Arc::new(alloc, hall)?;
     let theirs = Arc::try_clone(&hall)?;
-    moves(&theirs);
-    let _ = tick_on(rt, &theirs, other, 10);
-    drop(theirs);
+    let job = Job {
+        rt: *rt,
+        hall: theirs,
+        pass: other,
+        acts: 10,
+    };
+    start(rt, job)?.join(rt);
     let Some(hall) = Arc::into_inner(hall) else {
         return Ok(0);
     };

@@ -2,7 +2,7 @@
 ghost use Rattle.std.specs.Prelude.{◌≡◌, ◌≢◌, ◌+◌, ◌^◌, ◌<◌, ◌++◌, [], ◌∷◌, Some, None, true, false};
 ghost use Rattle.tree_hall.specs.declared.view.Desk.{Desk};
 ghost use Rattle.tree_hall.specs.declared.view.Role.TheVariants.{Idle, Waits, Has, Told, Splits, Alone};
-ghost use Rattle.tree_hall.specs.Histories.{IsPlayed, LeadsTo, Named, IsTimely};
+ghost use Rattle.tree_hall.specs.Histories.{Answers, IsPlayed, LeadsTo, Named, IsTimely};
 ghost use Rattle.tree_hall.specs.Turns.{posed, Took, TellsOf, HasStore, Served, Turned, Gathered, Same, newcomer, item_of};
 
 use crate::act::{Act, Answer, Call};
@@ -187,6 +187,7 @@ fn serve<J: Opening, S: StoreSide + Drop>(
     requires time { IsTimely act }
     requires room { into.items ≡ [] }
     ensures seat { (seat.new.table_id ≡ seat.old.table_id) × (seat.new.id ≡ seat.old.id) }
+    ensures kind { Answers act result.0 }
     ensures served { Served J.opened act result.0 seat.old.me seat.new.me }
 {
     let Desk { mut store, call: _ } = lift(board, seat);
@@ -221,6 +222,7 @@ pub(crate) fn take_turn<J: Opening, S: StoreSide + Drop, R: Wait>(
     requires time { IsTimely act }
     requires room { into.items ≡ [] }
     ensures seat { (seat.new.table_id ≡ seat.old.table_id) × (seat.new.id ≡ seat.old.id) }
+    ensures kind { Answers act result.0 }
     ensures acted { Turned J.opened act result.0 seat.old.me seat.new.me }
 {
     let ticket = draw(rt, board, seat);
