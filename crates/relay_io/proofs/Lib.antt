@@ -2,7 +2,9 @@ pub mod Failing
 pub mod OwnEndings
 pub mod Passing
 pub mod Pieces
+pub mod Handing
 pub mod Reasons
+pub mod Rounds
 pub mod Telling
 pub mod Turning
 pub mod Writing

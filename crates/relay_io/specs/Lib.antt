@@ -1,5 +1,8 @@
+pub mod Lines
 pub mod MemoryDuos
 pub mod Relayed
 pub mod Scenes
+pub mod Served
+pub mod Serving
 pub mod Sides
 pub mod Turns

@@ -8,13 +8,21 @@
 #![tactic(auto)]
 
 mod duo;
+mod jobs;
+mod line;
 mod memory;
+mod pulling;
 mod relaying;
+mod serving;
 mod sockets;
 
 pub use duo::{Duo, DuoEvent, Heard};
+pub use jobs::{RelayJob, ServeJob};
+pub use line::{Line, LineEvent, LineHeard, LineWhat};
 pub use memory::MemoryDuo;
+pub use pulling::Cut;
 pub use relaying::relay;
+pub use serving::{ServeEnding, serve_client};
 pub use sockets::SocketDuo;
 
 #[cfg(test)]
