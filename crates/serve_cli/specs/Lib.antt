@@ -1,0 +1,5 @@
+pub mod Words
+pub mod Commands
+pub mod Hosts
+pub mod Serving
+pub mod Ends
