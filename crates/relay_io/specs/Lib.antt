@@ -1,5 +1,6 @@
 pub mod Lines
 pub mod MemoryDuos
+pub mod MemoryLines
 pub mod Relayed
 pub mod Scenes
 pub mod Served

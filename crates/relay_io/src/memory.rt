@@ -78,7 +78,7 @@ fn is_of_store(event: &DuoEvent) -> bool
 }
 
 // The first of these bytes, so many at most.
-fn first_bytes(alloc: Global, bytes: &[u8], room: usize) -> Result<Bytes, Memory>
+pub(crate) fn first_bytes(alloc: Global, bytes: &[u8], room: usize) -> Result<Bytes, Memory>
     ensures { IfOk result (λ first. first ≡ take room bytes.now) }
 {
     let count = bytes.len().min(room);
@@ -86,7 +86,7 @@ fn first_bytes(alloc: Global, bytes: &[u8], room: usize) -> Result<Bytes, Memory
 }
 
 // The bytes behind these.
-fn other_bytes(alloc: Global, bytes: &[u8], room: usize) -> Result<Bytes, Memory>
+pub(crate) fn other_bytes(alloc: Global, bytes: &[u8], room: usize) -> Result<Bytes, Memory>
     requires { room ≤ length bytes.now }
     ensures { IfOk result (λ rest. rest ≡ drop room bytes.now) }
 {
@@ -134,7 +134,7 @@ fn rest_of(alloc: Global, event: &DuoEvent, room: usize) -> Result<Option<DuoEve
 }
 
 // Puts bytes into the front of a buffer.
-fn put_front(bytes: &[u8], buffer: &mut [u8])
+pub(crate) fn put_front(bytes: &[u8], buffer: &mut [u8])
     requires { length bytes.now ≤ length buffer.old }
     ensures { take (length bytes.now) buffer.new ≡ bytes.now }
 {
