@@ -1,3 +1,4 @@
+pub mod Coming
 pub mod Failing
 pub mod OwnEndings
 pub mod Passing

@@ -5,7 +5,8 @@ ghost use Rattle.jute_core.specs.Faults.{HasCause, Takes};
 ghost use Rattle.store_side.specs.Owed.{IsTime};
 ghost use Rattle.relay_io.specs.Lines.{FitsIn, GrewBy, LineCounts, line_events};
 ghost use Rattle.relay_io.specs.MemoryDuos.{is_listed, one_more};
-ghost use Rattle.relay_io.specs.MemoryLines.{LineState, line_told, time_of, gives_bytes, given, next_of, first_of, others_of, HearsAt, WaitedAt, WroteLine};
+ghost use Rattle.relay_io.specs.MemoryLines.{LineState, line_told, time_of, gives_bytes, given, next_of, first_of, others_of, with_others, HearsAt, WaitedAt, WroteLine};
+ghost use Rattle.relay_io.specs.Sides.{HasRisen};
 
 use crate::line::{Line, LineEvent, LineHeard, LineWhat};
 use crate::memory::{first_bytes, other_bytes, put_front};
@@ -114,6 +115,19 @@ fn others_of(alloc: Global, event: &LineEvent, room: usize) -> Result<Option<Lin
     }
 }
 
+// Puts what is left of the first event in its place, or takes the event away.
+fn leave(left: &mut Vec<LineEvent>, others: Option<LineEvent>)
+    requires { 0 < length left.old.items }
+    ensures { left.new.items ≡ with_others others (drop 1 left.old.items) }
+{
+    match others {
+        Some(others) => left[0] = others,
+        None => {
+            left.remove(0);
+        }
+    }
+}
+
 // Puts the bytes of an event into the front of a buffer, and answers what was heard.
 fn what_of(event: &LineEvent, buffer: &mut [u8]) -> LineWhat
     requires full { IsTrue (gives_bytes event.now) }
@@ -194,7 +208,8 @@ impl MemoryLine {
 
     // Counts a fault.
     fn count_fault(&mut self)
-        ensures { self.new ≡ record self.old { faults = one_more self.old.faults } }
+        ensures risen { HasRisen self.old.faults self.new.faults }
+        ensures counted { self.new ≡ record self.old { faults = one_more self.old.faults } }
     {
         self.faults = self.faults.saturating_add(1);
     }
@@ -209,7 +224,9 @@ impl MemoryLine {
     // The failure of a call.
     fn fail(&mut self) -> LineHeard
         ensures time { result.at ≡ self.old.last }
+        ensures timely { IsTime result.at }
         ensures what { result.what ≡ LineWhat.Failed }
+        ensures risen { HasRisen self.old.faults self.new.faults }
         ensures counted { self.new ≡ record self.old { faults = one_more self.old.faults } }
     {
         self.count_fault();
@@ -241,12 +258,7 @@ impl MemoryLine {
         let others = others_of(self.alloc, event, room)?;
         let what = what_of(&first, buffer);
         self.heard.push(first)?;
-        match others {
-            Some(others) => self.left[0] = others,
-            None => {
-                self.left.remove(0);
-            }
-        }
+        leave(&mut self.left, others);
         self.last = at;
         Ok(LineHeard { at, what })
     }

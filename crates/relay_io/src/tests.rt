@@ -1,17 +1,26 @@
-//! Relays of one whole session, over a duo in memory and over sockets.
+//! Relays of one whole session, over a duo in memory and over sockets, and served connections over a line in memory.
 
-use crate::{DuoEvent, MemoryDuo, SocketDuo, relay};
+ghost use Rattle.std.specs.Prelude.{All, IfOk};
+ghost use Rattle.store_side.specs.Owed.{IsTime};
+ghost use Rattle.relay_io.specs.MemoryLines.{time_of};
+
+use crate::{
+    DuoEvent, Line, LineEvent, MemoryDuo, MemoryLine, ServeEnding, SocketDuo, relay, serve_client,
+};
 use audit_board::Teller;
 use entry_session::Ending;
-use jute_core::Bytes;
+use jute_core::{Bytes, Memory};
 use path_seal::NameKeys;
 use payload_seal::{EntryKeys, PayloadKeys};
 use reply_rewrite::Finding;
 use std::alloc::{AllocError, Global};
 use std::io::{self, Read, Write};
 use std::net::{TcpListener, TcpStream};
+use std::sync::Wait;
 use std::test::Fail;
 use std::thread;
+use store_side::{StoreEnding, StoreSide};
+use tree_hall::{Hall, NoBells};
 
 // A connect, exists "/" and closeSession.
 const ASKED: &[u8] =
@@ -148,5 +157,126 @@ fn a_session_over_sockets(rt: HostRuntime) -> Result<(), Fail> {
     assert!(rt; received.as_slice() == ANSWERED);
     let asked = server.join(&rt);
     assert!(rt; matches!(asked, Ok(true)));
+    Ok(())
+}
+
+// A store that answers each piece with itself, and may end its side then. It stands at no past, so its calls promise nothing.
+#[derive(Drop)]
+struct Echo {
+    held: Vec<u8>,
+    ends: bool,
+}
+
+impl StoreSide for Echo {
+    ghost stands = { λ s past. ⊥ };
+
+    fn admit(&mut self) -> Result<u32, StoreEnding> {
+        Ok(1)
+    }
+
+    fn feed(&mut self, _connection: u32, _now: i64, piece: &[u8]) -> Result<(), StoreEnding> {
+        if self.held.extend_from_slice(piece).is_err() {
+            return Err(StoreEnding::Memory);
+        }
+        if self.ends {
+            return Err(StoreEnding::SessionClosed);
+        }
+        Ok(())
+    }
+
+    fn pull(
+        &mut self,
+        _connection: u32,
+        limit: usize,
+        into: &mut Vec<u8>,
+    ) -> Result<usize, Memory> {
+        let count = self.held.len().min(limit);
+        into.extend_from_slice(&self.held[..count])?;
+        self.held.drain(..count);
+        Ok(count)
+    }
+
+    fn lose(&mut self, _connection: u32) {}
+
+    fn tick(&mut self, _now: i64) -> Result<(), Memory> {
+        Ok(())
+    }
+
+    fn ending(&self, _connection: u32) -> Option<StoreEnding> {
+        None
+    }
+
+    fn waiting(&self, _connection: u32) -> usize {
+        self.held.len()
+    }
+
+    fn told(&mut self) -> Option<u32> {
+        None
+    }
+}
+
+// All that is asked, in one piece.
+fn one_piece(alloc: Global) -> Result<Vec<LineEvent>, AllocError>
+    ensures { IfOk result (λ events. All (λ event. IsTime (time_of event)) events.items) }
+{
+    let bytes = bytes(alloc, ASKED)?;
+    Ok(vec![in alloc; LineEvent::Bytes { at: 0, bytes }]?)
+}
+
+// A line of that piece, of which the calls with these numbers fail.
+fn line_of(alloc: Global, fails: &[u64]) -> Result<MemoryLine, AllocError> {
+    let events = one_piece(alloc)?;
+    Ok(MemoryLine::new(alloc, events, Vec::from_slice(alloc, fails)?))
+}
+
+// Serves a line that connects to an echo.
+fn serve<R: Wait>(
+    rt: &R,
+    alloc: Global,
+    ends: bool,
+    line: &mut MemoryLine,
+) -> Result<ServeEnding, Fail> {
+    let echo = Echo {
+        held: Vec::new(alloc),
+        ends,
+    };
+    let (hall, mut pass) = Hall::new(alloc, echo, NoBells)?;
+    Ok(serve_client(rt, alloc, &hall, &mut pass, 10, line))
+}
+
+#[test]
+fn a_served_client_takes_what_its_store_answers(rt: HostRuntime) -> Result<(), Fail> {
+    let alloc = rt.alloc();
+    let mut line = line_of(alloc, &[])?;
+    let ending = serve(&rt, alloc, false, &mut line)?;
+    assert_eq!(rt; ending, ServeEnding::LineEnd);
+    assert!(rt; line.taken() == ASKED);
+    assert_eq!(rt;
+        (line.heard().len(), line.faults(), line.short()),
+        (2, 0, 0)
+    );
+    Ok(())
+}
+
+#[test]
+fn what_waits_where_the_store_ends_is_taken(rt: HostRuntime) -> Result<(), Fail> {
+    let alloc = rt.alloc();
+    let mut line = line_of(alloc, &[])?;
+    let ending = serve(&rt, alloc, true, &mut line)?;
+    assert_eq!(rt; ending, ServeEnding::Store(StoreEnding::SessionClosed));
+    assert!(rt; line.taken() == ASKED);
+    Ok(())
+}
+
+#[test]
+fn a_write_to_a_served_client_that_fails_ends_it(rt: HostRuntime) -> Result<(), Fail> {
+    let alloc = rt.alloc();
+    let mut line = line_of(alloc, &[1])?;
+    let ending = serve(&rt, alloc, false, &mut line)?;
+    assert_eq!(rt; ending, ServeEnding::LineFault);
+    assert_eq!(rt;
+        (line.taken().len(), line.heard().len(), line.faults()),
+        (0, 1, 1)
+    );
     Ok(())
 }
