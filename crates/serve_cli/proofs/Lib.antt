@@ -1,2 +1,3 @@
 pub mod Counting
-pub mod NotWords
+pub mod Statuses
+pub mod Stopping

@@ -31,11 +31,3 @@ EndsSo closes.NoMore e = e ≡ ends.Done
 EndsSo closes.NumbersUsed e = e ≡ ends.Stopped stops.NumbersUsed
 EndsSo closes.HostFault e = e ≡ ends.Stopped stops.HostFault
 EndsSo closes.Memory e = e ≡ ends.Stopped stops.Memory
-
--- the reasons to stop at a key file
-abbrev pub IsKeyStop : Stop → Type 0
-IsKeyStop (stops.Unread file) = Unit {0}
-IsKeyStop (stops.TooLong file) = Unit {0}
-IsKeyStop (stops.KeyMalformed size) = Unit {0}
-IsKeyStop stops.Memory = Unit {0}
-IsKeyStop stop = ⊥

@@ -14,9 +14,12 @@ pub record HostTold : Type 0 where
   pub ended : Bool
   pub faults : ℕ
 
+abbrev pub told_all : ℕ → ℕ → ℕ → Bool → ℕ → HostTold
+told_all accepted started skipped ended faults = record { accepted = accepted; started = started; skipped = skipped; ended = ended; faults = faults }
+
 -- a host that always takes more clients
 abbrev pub told_of : ℕ → ℕ → ℕ → ℕ → HostTold
-told_of accepted started skipped faults = record { accepted = accepted; started = started; skipped = skipped; ended = false; faults = faults }
+told_of accepted started skipped faults = told_all accepted started skipped false faults
 
 -- No job was started, and no count fell. So many connections were accepted so far, and this tells whether more come.
 pub record StartsNone (old new : HostTold) (accepted : ℕ) (ended : Bool) : Type 0 where

@@ -3,3 +3,4 @@ pub mod Commands
 pub mod Hosts
 pub mod Serving
 pub mod Ends
+pub mod Causes

@@ -1,7 +1,8 @@
 //! The key files of the commands that serve.
 
 ghost use Rattle.std.specs.Prelude.{◌≡◌, ◌≤◌, ◌++◌, codes, take, drop, IfOk, IfErr, Some, List, ℕ};
-ghost use Rattle.serve_cli.specs.Ends.{IsKeyStop};
+ghost use Rattle.replay_cli.specs.Run.{IsKey};
+ghost use Rattle.serve_cli.specs.Causes.{IsCounterKey, StopsAtKey};
 ghost use Rattle.sha2.specs.Sha256.{sha256};
 
 use aes_block::Key;
@@ -12,12 +13,14 @@ use sha2::{Digest, Sha256};
 use std::alloc::Global;
 
 // The keys of a proxy's relays, in a file.
+#[tactic(auto, using(crate::proofs::Stopping::of_file))]
 pub(crate) fn load_keys<'a, F: Files>(
     alloc: Global,
     name: &'a str,
     files: &mut F,
 ) -> Result<EntryKeys, Stop<'a>>
-    ensures stopped { IfErr result (λ stop. IsKeyStop stop) }
+    ensures stopped { IfErr result (λ stop. StopsAtKey IsKey name.now (F.told files.old name.now) (F.faults files.old)
+        (F.faults files.new) stop) }
     ensures later { F.faults files.old ≤ F.faults files.new }
 {
     let bytes = match load(alloc, name, files) {
@@ -53,12 +56,14 @@ fn password_key(salt: &[u8]) -> Key
 }
 
 // The keys of a store, in a file.
+#[tactic(auto, using(crate::proofs::Stopping::of_file))]
 pub(crate) fn load_store_keys<'a, F: Files>(
     alloc: Global,
     name: &'a str,
     files: &mut F,
 ) -> Result<StoreKeys, Stop<'a>>
-    ensures stopped { IfErr result (λ stop. IsKeyStop stop) }
+    ensures stopped { IfErr result (λ stop. StopsAtKey IsCounterKey name.now (F.told files.old name.now) (F.faults files.old)
+        (F.faults files.new) stop) }
     ensures later { F.faults files.old ≤ F.faults files.new }
 {
     let bytes = match load(alloc, name, files) {

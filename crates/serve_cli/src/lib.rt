@@ -12,6 +12,7 @@ mod closing;
 mod ending;
 mod host;
 mod keys;
+mod memory_host;
 mod proxy;
 mod socket_line;
 mod store;
@@ -22,6 +23,10 @@ mod words;
 
 pub use bells::SocketRings;
 pub use host::{Accepted, Host};
+pub use memory_host::{HostedDuo, HostedLine, MemoryHost};
 pub use socket_line::SocketLine;
 pub use tcp_host::TcpHost;
 pub use top_call::serve;
+
+#[cfg(test)]
+mod tests;

@@ -1,12 +1,18 @@
 //! The top call.
 
-ghost use Rattle.std.specs.Prelude.{◌≡◌, ◌≤◌, ◌<◌, ◌+◌, ◌-◌, ◌^◌, ℕ, true, IfSome, IfNone, IfOk};
-ghost use Rattle.jute_core.specs.Faults.{Rose};
+ghost use Rattle.std.specs.Prelude.{◌≡◌, ◌⊎◌, ◌≤◌, ◌<◌, ◌+◌, ◌-◌, ◌^◌, ℕ, List, [], codes, true, IfSome, IfNone, IfOk};
+ghost use Rattle.std.specs.Fmt.{decimal};
+ghost use Rattle.jute_core.specs.Faults.{Rose, Wrote};
 ghost use Rattle.tree_hall.specs.Passes.{IsPassOf};
-ghost use Rattle.serve_cli.specs.Words.{Fits};
+ghost use Rattle.replay_cli.specs.Printed.{line};
+ghost use Rattle.replay_cli.specs.Run.{IsKey, IsTooLong};
+ghost use Rattle.replay_cli.specs.Stops.{unread_line, too_long_line, bad_key_line};
+ghost use Rattle.replay_cli.specs.Words.{word};
+ghost use Rattle.serve_cli.specs.Words.{Fits, IsServedLine, proxy_line, store_line};
 ghost use Rattle.serve_cli.specs.Hosts.{Rests};
-ghost use Rattle.serve_cli.specs.Serving.{Joined};
+ghost use Rattle.serve_cli.specs.Serving.{Joined, numbers};
 ghost use Rattle.serve_cli.specs.Ends.{HostThen, EndsSo};
+ghost use Rattle.serve_cli.specs.Causes.{IsCounterKey, HasBadKey, EndsUnder, EndsFor, Said, SaidLine, Says, Ended};
 
 use crate::closing::Close;
 use crate::ending::End;
@@ -27,7 +33,8 @@ use tree_server::TreeServer;
 
 // Tries to say that a write failed, whatever comes of it.
 fn write_fault<E: Sink>(err: &mut E) -> Status
-    ensures { result ≡ Status.WriteFault }
+    ensures status { result ≡ Status.WriteFault }
+    ensures later { E.faults err.old ≤ E.faults err.new }
 {
     let _ = err.write(b"cannot write\n");
     Status::WriteFault
@@ -54,7 +61,11 @@ fn open<H: Host, E: Sink>(
 ) -> Option<End<'static>>
     ensures some { IfSome result (λ end. HostThen end (H.told host.old) (H.told host.new)) }
     ensures none { IfNone result (Rests (H.told host.old) (H.told host.new)) }
-    ensures words { IfSome result (λ end. end ≡ End.Stopped Stop.BadWords → ⊥) }
+    ensures kind { IfSome result (λ end. (end ≡ End.Unsaid) ⊎ (end ≡ End.Stopped Stop.HostFault)) }
+    ensures unsaid { result ≡ Some End.Unsaid → Rose (E.faults err.old) (E.faults err.new) }
+    ensures quiet { result ≡ Some (End.Stopped Stop.HostFault) → E.taken err.new ≡ E.taken err.old }
+    ensures said { IfNone result (Wrote (E.taken err.old) (E.taken err.new) text.now) }
+    ensures later { E.faults err.old ≤ E.faults err.new }
 {
     if host.listen(listen).is_err() {
         return Some(End::Stopped(Stop::HostFault));
@@ -66,7 +77,7 @@ fn open<H: Host, E: Sink>(
 }
 
 // Relays between clients and a store.
-#[tactic(auto, using(crate::proofs::NotWords::no_words_at_key, crate::proofs::NotWords::no_words_at_close))]
+#[tactic(auto, using(crate::proofs::Stopping::at_key, crate::proofs::Stopping::at_close, crate::proofs::Stopping::quiet_at_key, crate::proofs::Stopping::said_at_close, crate::proofs::Stopping::at_opening, crate::proofs::Stopping::said_at_opening))]
 fn proxy<'a, H: Host, F: Files, E: Sink>(
     rt: &H::Rt,
     alloc: Global,
@@ -82,7 +93,10 @@ fn proxy<'a, H: Host, F: Files, E: Sink>(
     requires boot { boot < 2 ^ 24 }
     requires room { (H.told host.old).accepted ≤ 2 ^ 63 - 1 }
     ensures host { HostThen result (H.told host.old) (H.told host.new) }
-    ensures words { result ≡ End.Stopped Stop.BadWords → ⊥ }
+    ensures cause { EndsUnder IsKey key.now (F.told files.old key.now) (F.faults files.old) (F.faults files.new) result }
+    ensures said { Said (λ text. text ≡ proxy_line listen.now store.now (decimal boot)) result (E.taken err.old) (E.taken err.new)
+        (E.faults err.old) (E.faults err.new) }
+    ensures later { E.faults err.old ≤ E.faults err.new }
 {
     let keys = match load_keys(alloc, key, files) {
         Ok(keys) => keys,
@@ -121,7 +135,7 @@ fn new_hall<H: Host>(
 }
 
 // Serves a store.
-#[tactic(auto, using(crate::proofs::NotWords::no_words_at_key, crate::proofs::NotWords::no_words_at_close))]
+#[tactic(auto, using(crate::proofs::Stopping::at_key, crate::proofs::Stopping::at_close, crate::proofs::Stopping::quiet_at_key, crate::proofs::Stopping::said_at_close, crate::proofs::Stopping::at_opening, crate::proofs::Stopping::said_at_opening))]
 fn store<'a, H: Host, F: Files, E: Sink>(
     rt: &H::Rt,
     alloc: Global,
@@ -133,7 +147,10 @@ fn store<'a, H: Host, F: Files, E: Sink>(
 ) -> End<'a>
     requires room { (H.told host.old).accepted ≤ 2 ^ 63 - 1 }
     ensures host { HostThen result (H.told host.old) (H.told host.new) }
-    ensures words { result ≡ End.Stopped Stop.BadWords → ⊥ }
+    ensures cause { EndsUnder IsCounterKey key.now (F.told files.old key.now) (F.faults files.old) (F.faults files.new) result }
+    ensures said { Said (λ text. text ≡ store_line listen.now) result (E.taken err.old) (E.taken err.new) (E.faults err.old)
+        (E.faults err.new) }
+    ensures later { E.faults err.old ≤ E.faults err.new }
 {
     let keys = match load_store_keys(alloc, key, files) {
         Ok(keys) => keys,
@@ -152,6 +169,7 @@ fn store<'a, H: Host, F: Files, E: Sink>(
 }
 
 // Runs the command that the words name, up to its end.
+#[tactic(auto, using(crate::proofs::Stopping::of_proxy, crate::proofs::Stopping::of_store, crate::proofs::Stopping::said_of_proxy, crate::proofs::Stopping::said_of_store))]
 fn served<'a, H: Host, F: Files, E: Sink>(
     rt: &H::Rt,
     alloc: Global,
@@ -163,7 +181,10 @@ fn served<'a, H: Host, F: Files, E: Sink>(
 ) -> End<'a>
     requires room { (H.told host.old).accepted ≤ 2 ^ 63 - 1 }
     ensures host { HostThen result (H.told host.old) (H.told host.new) }
-    ensures words { result ≡ End.Stopped Stop.BadWords → Fits words.now → ⊥ }
+    ensures cause { EndsFor words.now (F.told files.old) (F.faults files.old) (F.faults files.new) result }
+    ensures no_row { (Fits words.now → ⊥) → (result ≡ End.Stopped Stop.BadWords) × (files.new ≡ files.old) }
+    ensures said { Said (IsServedLine words.now) result (E.taken err.old) (E.taken err.new) (E.faults err.old) (E.faults err.new) }
+    ensures later { E.faults err.old ≤ E.faults err.new }
 {
     match command_of(words) {
         None => End::Stopped(Stop::BadWords),
@@ -179,12 +200,23 @@ fn served<'a, H: Host, F: Files, E: Sink>(
     }
 }
 
+// Says how serving ended, and answers its status.
+fn status<E: Sink>(alloc: Global, end: End<'_>, err: &mut E) -> Status
+    ensures { Ended end.entry (E.taken err.old) (E.taken err.new) (E.faults err.old) (E.faults err.new) result }
+{
+    match end {
+        End::Done => Status::Done,
+        End::Stopped(stop) => complain(alloc, stop, err),
+        End::Unsaid => write_fault(err),
+    }
+}
+
 /// Runs the command that the words name, a proxy or a store, for the connections of a host, and answers its status. A proxy tells its
 /// findings to the board.
 ///
-/// Each connection that was accepted went into a job of its own, whatever the status. `Done` comes only where the host has ended,
-/// `HostFault` only where its count of faults rose, and `NumbersUsed` only where 4,294,967,295 connections were accepted. Waits for the
-/// host.
+/// Each connection that was accepted went into a job of its own, whatever the status. The key file is read once, before the host
+/// listens. `out` is left as it was; `err` takes one line that says what is served, and the line of each status but `Done`. Waits for
+/// the host.
 pub fn serve<H: Host, F: Files, K: Sink, E: Sink>(
     rt: &H::Rt,
     alloc: Global,
@@ -197,16 +229,35 @@ pub fn serve<H: Host, F: Files, K: Sink, E: Sink>(
 ) -> Status
     requires { (H.told host.old).accepted ≤ 2 ^ 63 - 1 }
     ensures jobs { (count : ℕ) × Joined (H.told host.old) (H.told host.new) count }
-    ensures done { result ≡ Status.Done → (H.told host.new).ended ≡ true }
-    ensures host_fault { result ≡ Status.HostFault → Rose (H.told host.old).faults (H.told host.new).faults }
-    ensures numbers_used { result ≡ Status.NumbersUsed → (H.told host.new).accepted ≡ (H.told host.old).accepted + 4294967295 }
-    ensures bad_words { result ≡ Status.BadWords → Fits words.now → ⊥ }
+    // No more clients came, after a line that says what is served.
+    ensures done { result ≡ Status.Done → ((H.told host.new).ended ≡ true)
+        × SaidLine (IsServedLine words.now) (E.taken err.old) (E.taken err.new) }
+    // No row of the table of commands fits.
+    ensures bad_words { result ≡ Status.BadWords → (Fits words.now → ⊥)
+        × Wrote (E.taken err.old) (E.taken err.new) (line (codes "bad words") []) }
+    ensures no_row { (Fits words.now → ⊥) → (result ≡ Status.BadWords) ⊎ (result ≡ Status.WriteFault) ⊎ (result ≡ Status.Memory) }
+    ensures unread { (Fits words.now → ⊥) → files.new ≡ files.old }
+    // The key file was not read, or is too long, or has a length that no key file of the command has; it is named, or its length is.
+    ensures read_fault { result ≡ Status.ReadFault → Fits words.now × Rose (F.faults files.old) (F.faults files.new)
+        × Wrote (E.taken err.old) (E.taken err.new) (unread_line (word words.now 1)) }
+    ensures too_long { result ≡ Status.InputTooLong → Fits words.now × IsTooLong (F.told files.old (word words.now 1))
+        × Wrote (E.taken err.old) (E.taken err.new) (too_long_line (word words.now 1)) }
+    ensures key_malformed { result ≡ Status.KeyMalformed → (size : ℕ) × HasBadKey words.now (F.told files.old (word words.now 1)) size
+        × Wrote (E.taken err.old) (E.taken err.new) (bad_key_line size) }
+    ensures script_malformed { result ≡ Status.ScriptMalformed → ⊥ }
+    // The host failed, or each number of a connection was given.
+    ensures host_fault { result ≡ Status.HostFault → Rose (H.told host.old).faults (H.told host.new).faults
+        × Says words.now (E.taken err.old) (E.taken err.new) (line (codes "host fault") []) }
+    ensures numbers_used { result ≡ Status.NumbersUsed → ((H.told host.new).accepted ≡ (H.told host.old).accepted + numbers)
+        × Says words.now (E.taken err.old) (E.taken err.new) (line (codes "connection numbers used") []) }
+    ensures all_numbers { (H.told host.new).accepted ≡ (H.told host.old).accepted + numbers
+        → (result ≡ Status.NumbersUsed) ⊎ (result ≡ Status.WriteFault) ⊎ (result ≡ Status.Memory) }
+    // A write failed, or there was no memory.
+    ensures write_fault { result ≡ Status.WriteFault → Rose (E.faults err.old) (E.faults err.new) }
+    ensures memory { result ≡ Status.Memory → Says words.now (E.taken err.old) (E.taken err.new) (line (codes "no memory") []) }
     ensures out { out.new ≡ out.old }
 {
     let _ = out;
-    match served(rt, alloc, words, host, files, board, err) {
-        End::Done => Status::Done,
-        End::Stopped(stop) => complain(alloc, stop, err),
-        End::Unsaid => write_fault(err),
-    }
+    let end = served(rt, alloc, words, host, files, board, err);
+    status(alloc, end, err)
 }
