@@ -16,6 +16,10 @@ use std::time::Duration;
 // How long a write waits for a peer that reads nothing, in seconds.
 const WRITE_LIMIT: u64 = 30;
 
+// How long both sides may be silent, in milliseconds. A session lasts at most 40 seconds without its client, so a client that is
+// silent for longer is gone, though its end was never heard.
+const SILENCE: i32 = 60_000;
+
 /// A client and a store, each at the other end of a TCP stream. It tells nothing of what it hears and writes.
 #[derive(Drop)]
 pub struct SocketDuo {
@@ -32,21 +36,23 @@ fn set_up(stream: &TcpStream) -> io::Result<()> {
     stream.set_write_timeout(Some(Duration::from_secs(WRITE_LIMIT)))
 }
 
-// Which of two streams, the client's and the store's, have something to read, an end or an error. Waits without a limit of time.
-fn ready(client: &TcpStream, store: &TcpStream) -> (bool, bool) {
+// Which of two streams, the client's and the store's, have something to read, an end or an error. `None` where neither has for too
+// long, or the system failed.
+fn ready(client: &TcpStream, store: &TcpStream) -> Option<(bool, bool)> {
     let mut fds = [client.as_raw_fd(), store.as_raw_fd()].map(|fd| pollfd {
         fd,
         events: POLLIN,
         revents: 0,
     });
-    if poll(&mut fds, -1) <= 0 {
-        return (false, false);
+    if poll(&mut fds, SILENCE) <= 0 {
+        return None;
     }
-    (fds[0].revents != 0, fds[1].revents != 0)
+    Some((fds[0].revents != 0, fds[1].revents != 0))
 }
 
 impl SocketDuo {
-    /// A duo over these streams, of which no side failed so far. Writes are sent at once; one that waits for 30 seconds fails.
+    /// A duo over these streams, of which no side failed so far. Writes are sent at once; one that waits for 30 seconds fails. Where
+    /// both sides are silent for 60 seconds, the client failed.
     ///
     /// # Errors
     /// An option could not be set on a stream.
@@ -62,6 +68,15 @@ impl SocketDuo {
         })
     }
 
+    // Counts a failure of the client.
+    fn fail_client(&mut self) -> Heard
+        ensures failed { result ≡ Heard.ClientFailed }
+        ensures counts { Counts result (untold self.old.client_faults self.old.store_faults) (untold self.new.client_faults self.new.store_faults) }
+    {
+        self.client_faults = self.client_faults.saturating_add(1);
+        Heard::ClientFailed
+    }
+
     // Reads from the client.
     fn hear_client(&mut self, buffer: &mut [u8]) -> Heard
         requires { 0 < length buffer.old }
@@ -71,10 +86,7 @@ impl SocketDuo {
         match self.client.read(buffer) {
             Ok(0) => Heard::ClientEnd,
             Ok(count) => Heard::Client(count),
-            Err(_) => {
-                self.client_faults = self.client_faults.saturating_add(1);
-                Heard::ClientFailed
-            }
+            Err(_) => self.fail_client(),
         }
     }
 
@@ -102,7 +114,9 @@ impl Duo for SocketDuo {
 
     // A side that is ready goes first in turn, so that neither keeps the other waiting.
     fn next(&mut self, buffer: &mut [u8]) -> Heard {
-        let (client, store) = ready(&self.client, &self.store);
+        let Some((client, store)) = ready(&self.client, &self.store) else {
+            return self.fail_client();
+        };
         let store_first = self.store_first;
         self.store_first = !store_first;
         if store && (store_first || !client) {

@@ -57,8 +57,8 @@ told_so s (stops.TooLong name) mid e h d w = (e.0, e.2, subst (λ (n : List ℕ)
 told_so s (stops.KeyMalformed size) mid e h d w = (size, e, wrote_from s.err_before mid s.err_now _ d w)
 told_so s (stops.ScriptMalformed number) mid e h d w = e
 told_so s stops.Memory mid e h d w = says s.words s.err_before mid s.err_now _ d w
-told_so s stops.HostFault mid e h d w = (h.1.by.2, says s.words s.err_before mid s.err_now _ d w)
-told_so s stops.NumbersUsed mid e h d w = (h.1.joined.accepted ∙ ap (λ (n : ℕ). s.host_before.accepted + n) h.1.by.0, says s.words s.err_before mid s.err_now _ (inr d) w)
+told_so s stops.HostFault mid e h d w = (h.1.by.2, e, says s.words s.err_before mid s.err_now _ d w)
+told_so s stops.NumbersUsed mid e h d w = (h.1.joined.accepted ∙ ap (λ (n : ℕ). s.host_before.accepted + n) h.1.by.0, e, says s.words s.err_before mid s.err_now _ (inr d) w)
 
 told_stop : (s : Scene) (stop : Stop) (mid : Option (List ℕ)) (faults : ℕ) (r : Status) → EndsFor s.words s.told s.files_before s.files_now (ends.Stopped stop) → HostStopped stop s.host_before s.host_now
     → SaidBefore (IsServedLine s.words) stop s.err_before mid → s.faults_before ≤ faults → Complained stop mid s.err_now faults s.faults_now r → Serves s r
@@ -70,7 +70,7 @@ told_stop s stop mid faults r e h d le c = elim c.is [
 
 pub serves : (s : Scene) (e : End) (mid : Option (List ℕ)) (faults : ℕ) (r : Status) → EndsFor s.words s.told s.files_before s.files_now e → HostThen e s.host_before s.host_now
     → Said (IsServedLine s.words) e s.err_before mid s.faults_before faults → s.faults_before ≤ faults → Ended e mid s.err_now faults s.faults_now r → Serves s r
-serves s ends.Done mid faults r e h d le t = subst (λ (r : Status). Serves s r) (sym t.0) (h.1.by.1, (d.0, d.1, wrote_to s.err_before mid s.err_now d.0 t.1 d.2))
+serves s ends.Done mid faults r e h d le t = subst (λ (r : Status). Serves s r) (sym t.0) (h.1.by.1, e, (d.0, d.1, wrote_to s.err_before mid s.err_now d.0 t.1 d.2))
 serves s (ends.Stopped stop) mid faults r e h d le t = told_stop s stop mid faults r e h d le t
 serves s ends.Unsaid mid faults r e h d le t = subst (λ (r : Status). Serves s r) (sym t.0) (rose_to s.faults_before faults s.faults_now d t.1)
 

@@ -9,7 +9,7 @@ use Rattle.replay_cli.specs.Told.{Told}
 use Rattle.replay_cli.specs.Words.{Words, word}
 use Rattle.replay_cli.specs.declared.stops.Stop.{Stop}
 use Rattle.replay_cli.specs.declared.stops.Stop.TheVariants as stops
-use Rattle.serve_cli.specs.Causes.{IsCounterKey, HoldsOther, HasBadKey, StopsAtKey, Ends, EndsUnder, EndsFor, SaidLine, SaidBefore, Said}
+use Rattle.serve_cli.specs.Causes.{IsCounterKey, HoldsOther, HasBadKey, HasKey, StopsAtKey, Ends, EndsUnder, EndsFor, SaidLine, SaidBefore, Said}
 use Rattle.serve_cli.specs.Ends.{EndsSo}
 use Rattle.serve_cli.specs.Words.{Fits, IsProxy, IsStore, IsServedLine, proxy_line, store_line}
 use Rattle.serve_cli.specs.declared.closing.Close.{Close}
@@ -55,11 +55,11 @@ quiet_at_key IsKind key file before now stops.NumbersUsed IsLine text b n h = ab
 
 -- Where no more clients are taken
 
-pub at_close : (IsKind : List ℕ → Type 0) (key : List ℕ) (file : Told) (before now : ℕ) (close : Close) (e : End) → EndsSo close e → EndsUnder IsKind key file before now e
-at_close IsKind key file before now closes.NoMore e h = subst (λ (e : End). EndsUnder IsKind key file before now e) (sym h) tt
-at_close IsKind key file before now closes.NumbersUsed e h = subst (λ (e : End). EndsUnder IsKind key file before now e) (sym h) tt
-at_close IsKind key file before now closes.HostFault e h = subst (λ (e : End). EndsUnder IsKind key file before now e) (sym h) tt
-at_close IsKind key file before now closes.Memory e h = subst (λ (e : End). EndsUnder IsKind key file before now e) (sym h) tt
+pub at_close : (IsKind : List ℕ → Type 0) (key : List ℕ) (file : Told) (before now : ℕ) (close : Close) (e : End) → EndsSo close e → MayBe file IsKind → EndsUnder IsKind key file before now e
+at_close IsKind key file before now closes.NoMore e h k = subst (λ (e : End). EndsUnder IsKind key file before now e) (sym h) k
+at_close IsKind key file before now closes.NumbersUsed e h k = subst (λ (e : End). EndsUnder IsKind key file before now e) (sym h) k
+at_close IsKind key file before now closes.HostFault e h k = subst (λ (e : End). EndsUnder IsKind key file before now e) (sym h) k
+at_close IsKind key file before now closes.Memory e h k = subst (λ (e : End). EndsUnder IsKind key file before now e) (sym h) tt
 
 pub said_at_close : (line : List ℕ) (close : Close) (e : End) (old new : Option (List ℕ)) (before now : ℕ) → EndsSo close e → Wrote old new line → Said (λ text. text ≡ line) e old new before now
 said_at_close line closes.NoMore e old new before now h w = subst (λ (e : End). Said (λ text. text ≡ line) e old new before now) (sym h) (line, refl, w)
@@ -69,10 +69,10 @@ said_at_close line closes.Memory e old new before now h w = subst (λ (e : End).
 
 -- Where the host did not listen, or nothing could be said
 
-pub at_opening : (IsKind : List ℕ → Type 0) (key : List ℕ) (file : Told) (before now : ℕ) (e : End) → (e ≡ ends.Unsaid) ⊎ (e ≡ ends.Stopped stops.HostFault) → EndsUnder IsKind key file before now e
-at_opening IsKind key file before now e h = elim h [
-  | inl is ↦ subst (λ (e : End). EndsUnder IsKind key file before now e) (sym is) tt
-  | inr is ↦ subst (λ (e : End). EndsUnder IsKind key file before now e) (sym is) tt
+pub at_opening : (IsKind : List ℕ → Type 0) (key : List ℕ) (file : Told) (before now : ℕ) (e : End) → (e ≡ ends.Unsaid) ⊎ (e ≡ ends.Stopped stops.HostFault) → MayBe file IsKind → EndsUnder IsKind key file before now e
+at_opening IsKind key file before now e h k = elim h [
+  | inl is ↦ subst (λ (e : End). EndsUnder IsKind key file before now e) (sym is) k
+  | inr is ↦ subst (λ (e : End). EndsUnder IsKind key file before now e) (sym is) k
 ]
 
 pub said_at_opening : (IsLine : List ℕ → Type 0) (e : End) (old new : Option (List ℕ)) (before now : ℕ) → (e ≡ ends.Unsaid) ⊎ (e ≡ ends.Stopped stops.HostFault)
@@ -86,25 +86,25 @@ said_at_opening IsLine e old new before now h rose quiet = elim h [
 
 -- a stop of a command that fits, whose key file is named by the second word
 of_command : (IsKind : List ℕ → Type 0) (words : Words) (key : List ℕ) (told : List ℕ → Told) (before now : ℕ) (e : End) → Fits words → key ≡ word words 1
-    → ((file : Told) (size : ℕ) → HoldsOther IsKind file size → HasBadKey words file size) → EndsUnder IsKind key (told key) before now e → EndsFor words told before now e
-of_command IsKind words key told before now ends.Done fits is bad h = tt
-of_command IsKind words key told before now ends.Unsaid fits is bad h = tt
-of_command IsKind words key told before now (ends.Stopped stops.BadWords) fits is bad h = absurd h
-of_command IsKind words key told before now (ends.Stopped (stops.Unread name)) fits is bad h = (fits, h.0 ∙ is, h.1)
-of_command IsKind words key told before now (ends.Stopped (stops.TooLong name)) fits is bad h = (fits, h.0 ∙ is, subst (λ (k : List ℕ). IsTooLong (told k)) is h.1)
-of_command IsKind words key told before now (ends.Stopped (stops.KeyMalformed size)) fits is bad h = bad (told (word words 1)) size (subst (λ (k : List ℕ). HoldsOther IsKind (told k) size) is h)
-of_command IsKind words key told before now (ends.Stopped (stops.ScriptMalformed number)) fits is bad h = h
-of_command IsKind words key told before now (ends.Stopped stops.Memory) fits is bad h = tt
-of_command IsKind words key told before now (ends.Stopped stops.HostFault) fits is bad h = tt
-of_command IsKind words key told before now (ends.Stopped stops.NumbersUsed) fits is bad h = tt
+    → ((file : Told) (size : ℕ) → HoldsOther IsKind file size → HasBadKey words file size) → ((file : Told) → MayBe file IsKind → HasKey words file) → EndsUnder IsKind key (told key) before now e → EndsFor words told before now e
+of_command IsKind words key told before now ends.Done fits is bad keyed h = keyed (told (word words 1)) (subst (λ (k : List ℕ). MayBe (told k) IsKind) is h)
+of_command IsKind words key told before now ends.Unsaid fits is bad keyed h = keyed (told (word words 1)) (subst (λ (k : List ℕ). MayBe (told k) IsKind) is h)
+of_command IsKind words key told before now (ends.Stopped stops.BadWords) fits is bad keyed h = absurd h
+of_command IsKind words key told before now (ends.Stopped (stops.Unread name)) fits is bad keyed h = (fits, h.0 ∙ is, h.1)
+of_command IsKind words key told before now (ends.Stopped (stops.TooLong name)) fits is bad keyed h = (fits, h.0 ∙ is, subst (λ (k : List ℕ). IsTooLong (told k)) is h.1)
+of_command IsKind words key told before now (ends.Stopped (stops.KeyMalformed size)) fits is bad keyed h = bad (told (word words 1)) size (subst (λ (k : List ℕ). HoldsOther IsKind (told k) size) is h)
+of_command IsKind words key told before now (ends.Stopped (stops.ScriptMalformed number)) fits is bad keyed h = h
+of_command IsKind words key told before now (ends.Stopped stops.Memory) fits is bad keyed h = tt
+of_command IsKind words key told before now (ends.Stopped stops.HostFault) fits is bad keyed h = keyed (told (word words 1)) (subst (λ (k : List ℕ). MayBe (told k) IsKind) is h)
+of_command IsKind words key told before now (ends.Stopped stops.NumbersUsed) fits is bad keyed h = keyed (told (word words 1)) (subst (λ (k : List ℕ). MayBe (told k) IsKind) is h)
 
 pub of_proxy : (words : Words) (boot : ℕ) (key : List ℕ) (told : List ℕ → Told) (before now : ℕ) (e : End) → IsProxy words boot → key ≡ word words 1
     → EndsUnder IsKey key (told key) before now e → EndsFor words told before now e
-of_proxy words boot key told before now e p is h = of_command IsKey words key told before now e (inl (boot, p)) is (λ file size bad. inl ((boot, p), bad)) h
+of_proxy words boot key told before now e p is h = of_command IsKey words key told before now e (inl (boot, p)) is (λ file size bad. inl ((boot, p), bad)) (λ file k. inl ((boot, p), k)) h
 
 pub of_store : (words : Words) (key : List ℕ) (told : List ℕ → Told) (before now : ℕ) (e : End) → IsStore words → key ≡ word words 1
     → EndsUnder IsCounterKey key (told key) before now e → EndsFor words told before now e
-of_store words key told before now e p is h = of_command IsCounterKey words key told before now e (inr p) is (λ file size bad. inr (p, bad)) h
+of_store words key told before now e p is h = of_command IsCounterKey words key told before now e (inr p) is (λ file size bad. inr (p, bad)) (λ file k. inr (p, k)) h
 
 -- a line of one kind is a line of another
 line_of : (A B : List ℕ → Type 0) (old new : Option (List ℕ)) → ((text : List ℕ) → A text → B text) → SaidLine A old new → SaidLine B old new

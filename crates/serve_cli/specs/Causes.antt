@@ -30,6 +30,10 @@ HoldsOther IsKind file size = MayBe file (λ bytes. (IsKind bytes → ⊥) × (s
 abbrev pub HasBadKey : Words → Told → ℕ → Type 0
 HasBadKey words file size = (IsSomeProxy words × HoldsOther IsKey file size) ⊎ (IsStore words × HoldsOther IsCounterKey file size)
 
+-- the key file of the command may hold a key of it
+abbrev pub HasKey : Words → Told → Type 0
+HasKey words file = (IsSomeProxy words × MayBe file IsKey) ⊎ (IsStore words × MayBe file IsCounterKey)
+
 -- A stop at a key file of this name and kind, of which this is told: it was not read, and the count of faults rose; or it is too long;
 -- or it is of another kind.
 abbrev pub StopsAtKey : (List ℕ → Type 0) → List ℕ → Told → ℕ → ℕ → Stop → Type 0
@@ -37,19 +41,20 @@ StopsAtKey IsKind key file before now stop = Because stop ⊥ (λ name. (name �
 
 -- Ends of serving
 
--- the cause of a stop; what the host did is said apart
-abbrev pub Ends : Type 0 → (List ℕ → Type 0) → (List ℕ → Type 0) → (ℕ → Type 0) → End → Type 0
-Ends bad unread long key (ends.Stopped stop) = BecauseServing stop bad unread long key (λ number. ⊥) (Unit {0}) (Unit {0})
-Ends bad unread long key end = Unit {0}
+-- the cause of a stop; any other end comes under a key, and what the host did is said apart
+abbrev pub Ends : Type 0 → (List ℕ → Type 0) → (List ℕ → Type 0) → (ℕ → Type 0) → Type 0 → End → Type 0
+Ends bad unread long key keyed (ends.Stopped stop) = BecauseServing stop bad unread long key (λ number. ⊥) keyed keyed
+Ends bad unread long key keyed end = keyed
 
 -- under a key file of this name and kind
 abbrev pub EndsUnder : (List ℕ → Type 0) → List ℕ → Told → ℕ → ℕ → End → Type 0
-EndsUnder IsKind key file before now end = Ends ⊥ (λ name. (name ≡ key) × Rose before now) (λ name. (name ≡ key) × IsTooLong file) (HoldsOther IsKind file) end
+EndsUnder IsKind key file before now end = Ends ⊥ (λ name. (name ≡ key) × Rose before now) (λ name. (name ≡ key) × IsTooLong file) (HoldsOther IsKind file) (MayBe file IsKind) end
 
 -- for the command that the words name
 abbrev pub EndsFor : Words → (List ℕ → Told) → ℕ → ℕ → End → Type 0
 EndsFor words told before now end = Ends (Fits words → ⊥) (λ name. Fits words × (name ≡ word words 1) × Rose before now)
-    (λ name. Fits words × (name ≡ word words 1) × IsTooLong (told (word words 1))) (HasBadKey words (told (word words 1))) end
+    (λ name. Fits words × (name ≡ word words 1) × IsTooLong (told (word words 1))) (HasBadKey words (told (word words 1)))
+    (HasKey words (told (word words 1))) end
 
 -- What is said
 
@@ -101,14 +106,15 @@ pub record Scene : Type 0 where
   pub faults_now : ℕ
 
 abbrev pub Serves : Scene → Status → Type 0
-Serves s statuses.Done = (s.host_now.ended ≡ true) × SaidLine (IsServedLine s.words) s.err_before s.err_now
+Serves s statuses.Done = (s.host_now.ended ≡ true) × HasKey s.words (s.told (word s.words 1)) × SaidLine (IsServedLine s.words) s.err_before s.err_now
 Serves s statuses.BadWords = (Fits s.words → ⊥) × Wrote s.err_before s.err_now (line (codes "bad words") [])
 Serves s statuses.ReadFault = Fits s.words × Rose s.files_before s.files_now × Wrote s.err_before s.err_now (unread_line (word s.words 1))
 Serves s statuses.InputTooLong = Fits s.words × IsTooLong (s.told (word s.words 1)) × Wrote s.err_before s.err_now (too_long_line (word s.words 1))
 Serves s statuses.KeyMalformed = (size : ℕ) × HasBadKey s.words (s.told (word s.words 1)) size × Wrote s.err_before s.err_now (bad_key_line size)
 Serves s statuses.ScriptMalformed = ⊥
-Serves s statuses.HostFault = Rose s.host_before.faults s.host_now.faults × Says s.words s.err_before s.err_now (line (codes "host fault") [])
-Serves s statuses.NumbersUsed = (s.host_now.accepted ≡ s.host_before.accepted + numbers)
+Serves s statuses.HostFault = Rose s.host_before.faults s.host_now.faults × HasKey s.words (s.told (word s.words 1))
+    × Says s.words s.err_before s.err_now (line (codes "host fault") [])
+Serves s statuses.NumbersUsed = (s.host_now.accepted ≡ s.host_before.accepted + numbers) × HasKey s.words (s.told (word s.words 1))
     × Says s.words s.err_before s.err_now (line (codes "connection numbers used") [])
 Serves s statuses.WriteFault = Rose s.faults_before s.faults_now
 Serves s statuses.Memory = Says s.words s.err_before s.err_now (line (codes "no memory") [])

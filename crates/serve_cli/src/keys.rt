@@ -1,7 +1,7 @@
 //! The key files of the commands that serve.
 
 ghost use Rattle.std.specs.Prelude.{◌≡◌, ◌≤◌, ◌++◌, codes, take, drop, IfOk, IfErr, Some, List, ℕ};
-ghost use Rattle.replay_cli.specs.Run.{IsKey};
+ghost use Rattle.replay_cli.specs.Run.{IsKey, MayBe};
 ghost use Rattle.serve_cli.specs.Causes.{IsCounterKey, StopsAtKey};
 ghost use Rattle.sha2.specs.Sha256.{sha256};
 
@@ -19,6 +19,7 @@ pub(crate) fn load_keys<'a, F: Files>(
     name: &'a str,
     files: &mut F,
 ) -> Result<EntryKeys, Stop<'a>>
+    ensures loaded { IfOk result (λ keys. MayBe (F.told files.old name.now) IsKey) }
     ensures stopped { IfErr result (λ stop. StopsAtKey IsKey name.now (F.told files.old name.now) (F.faults files.old)
         (F.faults files.new) stop) }
     ensures later { F.faults files.old ≤ F.faults files.new }
@@ -62,6 +63,7 @@ pub(crate) fn load_store_keys<'a, F: Files>(
     name: &'a str,
     files: &mut F,
 ) -> Result<StoreKeys, Stop<'a>>
+    ensures loaded { IfOk result (λ keys. MayBe (F.told files.old name.now) IsCounterKey) }
     ensures stopped { IfErr result (λ stop. StopsAtKey IsCounterKey name.now (F.told files.old name.now) (F.faults files.old)
         (F.faults files.new) stop) }
     ensures later { F.faults files.old ≤ F.faults files.new }

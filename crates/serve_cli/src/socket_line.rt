@@ -23,6 +23,10 @@ const WRITE_LIMIT: u64 = 30;
 // How long a line waits for bytes, in milliseconds.
 const IDLE: i32 = 200;
 
+// How long a client may send nothing, in milliseconds. A session lasts at most 40 seconds without its client, so a client that is
+// silent for longer is gone, though its end was never heard.
+const SILENCE: i64 = 60_000;
+
 // The last time of a line, in milliseconds.
 const LAST: u64 = 4_611_686_018_427_387_903;
 
@@ -61,9 +65,11 @@ pub struct SocketLine<R: Clock + Wait + Clone + Drop> {
     rings: SocketRings<R>,
     ticking: Ticking,
     last: i64,
+    heard: i64,
     name: Option<u32>,
     faults: u64,
     ghost timely: { IsTime last },
+    ghost heard_timely: { IsTime heard },
 }
 
 impl<R: Clock + Wait + Clone + Drop> Drop for SocketLine<R> {
@@ -78,6 +84,7 @@ impl<R: Clock + Wait + Clone + Drop> Drop for SocketLine<R> {
             rings: _,
             ticking: _,
             last: _,
+            heard: _,
             name: _,
             faults: _,
         } = self;
@@ -98,10 +105,11 @@ fn wait(stream: &TcpStream, bell: &Bell) -> Option<(bool, bool)> {
 }
 
 impl<R: Clock + Wait + Clone + Drop> SocketLine<R> {
-    /// A line over this stream, which did not fail so far. Writes are sent at once; one that waits for 30 seconds fails.
+    /// A line over this stream, which did not fail so far. Writes are sent at once; one that waits for 30 seconds fails, and so does a
+    /// line whose client sends nothing for 60 seconds.
     ///
     /// # Errors
-    /// An option could not be set on the stream.
+    /// An option could not be set on the stream, or a clock could not be read.
     pub(crate) fn new(
         rt: R,
         stream: TcpStream,
@@ -111,13 +119,17 @@ impl<R: Clock + Wait + Clone + Drop> SocketLine<R> {
     ) -> io::Result<SocketLine<R>> {
         stream.set_nodelay(true)?;
         stream.set_write_timeout(Some(Duration::from_secs(WRITE_LIMIT)))?;
+        let Some(start) = ticking.now(&rt) else {
+            return Err(io::Error::from(io::ErrorKind::Other));
+        };
         Ok(SocketLine {
             rt,
             stream,
             bell,
             rings,
             ticking,
-            last: 0,
+            last: start,
+            heard: start,
             name: None,
             faults: 0,
         })
@@ -174,6 +186,16 @@ impl<R: Clock + Wait + Clone + Drop> Line for SocketLine<R> {
     fn next(&mut self, buffer: &mut [u8]) -> LineHeard {
         let what = self.hear(buffer);
         let at = self.now();
+        match what {
+            LineWhat::Bytes(_) => self.heard = at,
+            LineWhat::Idle if at - self.heard > SILENCE => {
+                return LineHeard {
+                    at,
+                    what: self.fail(),
+                };
+            }
+            _ => {}
+        }
         LineHeard { at, what }
     }
 

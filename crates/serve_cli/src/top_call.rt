@@ -12,7 +12,7 @@ ghost use Rattle.serve_cli.specs.Words.{Fits, IsServedLine, proxy_line, store_li
 ghost use Rattle.serve_cli.specs.Hosts.{Rests};
 ghost use Rattle.serve_cli.specs.Serving.{Joined, numbers};
 ghost use Rattle.serve_cli.specs.Ends.{HostThen, EndsSo};
-ghost use Rattle.serve_cli.specs.Causes.{IsCounterKey, HasBadKey, EndsUnder, EndsFor, Said, SaidLine, Says, Ended};
+ghost use Rattle.serve_cli.specs.Causes.{IsCounterKey, HasBadKey, HasKey, EndsUnder, EndsFor, Said, SaidLine, Says, Ended};
 
 use crate::closing::Close;
 use crate::ending::End;
@@ -229,8 +229,8 @@ pub fn serve<H: Host, F: Files, K: Sink, E: Sink>(
 ) -> Status
     requires { (H.told host.old).accepted ≤ 2 ^ 63 - 1 }
     ensures jobs { (count : ℕ) × Joined (H.told host.old) (H.told host.new) count }
-    // No more clients came, after a line that says what is served.
-    ensures done { result ≡ Status.Done → ((H.told host.new).ended ≡ true)
+    // No more clients came, after a line that says what is served, under a file that may hold a key of the command.
+    ensures done { result ≡ Status.Done → ((H.told host.new).ended ≡ true) × HasKey words.now (F.told files.old (word words.now 1))
         × SaidLine (IsServedLine words.now) (E.taken err.old) (E.taken err.new) }
     // No row of the table of commands fits.
     ensures bad_words { result ≡ Status.BadWords → (Fits words.now → ⊥)
@@ -247,8 +247,10 @@ pub fn serve<H: Host, F: Files, K: Sink, E: Sink>(
     ensures script_malformed { result ≡ Status.ScriptMalformed → ⊥ }
     // The host failed, or each number of a connection was given.
     ensures host_fault { result ≡ Status.HostFault → Rose (H.told host.old).faults (H.told host.new).faults
+        × HasKey words.now (F.told files.old (word words.now 1))
         × Says words.now (E.taken err.old) (E.taken err.new) (line (codes "host fault") []) }
     ensures numbers_used { result ≡ Status.NumbersUsed → ((H.told host.new).accepted ≡ (H.told host.old).accepted + numbers)
+        × HasKey words.now (F.told files.old (word words.now 1))
         × Says words.now (E.taken err.old) (E.taken err.new) (line (codes "connection numbers used") []) }
     ensures all_numbers { (H.told host.new).accepted ≡ (H.told host.old).accepted + numbers
         → (result ≡ Status.NumbersUsed) ⊎ (result ≡ Status.WriteFault) ⊎ (result ≡ Status.Memory) }
