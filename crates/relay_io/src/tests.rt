@@ -1,18 +1,18 @@
 //! Relays of one whole session, over a duo in memory and over sockets, and served connections over a line in memory.
 
-ghost use Rattle.std.specs.Prelude.{All, IfOk};
+ghost use Rattle.std.specs.Prelude.{◌≡◌, ◌+◌, ◌<◌, All, IfOk, OnOk};
 ghost use Rattle.store_side.specs.Owed.{IsTime};
 ghost use Rattle.relay_io.specs.MemoryLines.{time_of};
 
 use crate::{
     DuoEvent, Line, LineEvent, MemoryDuo, MemoryLine, ServeEnding, SocketDuo, relay, serve_client,
 };
-use audit_board::Teller;
+use audit_board::{Board, ListObserver, Observer, Teller};
 use entry_session::Ending;
 use jute_core::{Bytes, Memory};
 use path_seal::NameKeys;
-use payload_seal::{EntryKeys, PayloadKeys};
-use reply_rewrite::Finding;
+use payload_seal::{EntryKeys, Flaw, PayloadKeys};
+use reply_rewrite::{Cause, Finding};
 use std::alloc::{AllocError, Global};
 use std::io::{self, Read, Write};
 use std::net::{TcpListener, TcpStream};
@@ -29,6 +29,9 @@ const ASKED: &[u8] =
 
 // The connect alone.
 const CONNECT: usize = 49;
+
+// The answer to the connect alone.
+const CONNECTED: usize = 41;
 
 // What a store answers to them: a session, the Stat of the root, and nothing.
 const ANSWERED: &[u8] =
@@ -125,6 +128,74 @@ fn turns_that_are_used_up(rt: HostRuntime) -> Result<(), Fail> {
     let ending = relay(alloc, keys(), 0, 1, 2, &mut duo, &mut board);
     assert_eq!(rt; ending, Ending::Turns);
     assert!(rt; duo.store_taken() == ASKED);
+    Ok(())
+}
+
+// The requests of this xid that asks for the content of "/a", and an answer of three bytes, which are no payload.
+fn read_and_answer(alloc: Global, xid: u8) -> Result<(Bytes, Bytes), AllocError> {
+    let mut read = Vec::from_slice(alloc, b"\0\0\0\x0f\0\0\0\x01\0\0\0\x04\0\0\0\x02/a\0")?;
+    read[7] = xid;
+    let mut answer = Vec::from_slice(
+        alloc,
+        b"\0\0\0\x5b\0\0\0\x01\0\0\0\0\0\0\0\x01\0\0\0\0\0\0\0\x03abc",
+    )?;
+    answer[7] = xid;
+    answer.extend_from_slice(&[0; 68])?;
+    Ok((Bytes::of(read), Bytes::of(answer)))
+}
+
+fn add(board: &mut Board, member: Box<dyn Observer + Send>) -> Result<(), AllocError>
+    requires { board.old.added < 4294967295 }
+    ensures { OnOk result (board.new.added ≡ board.old.added + 1) }
+{
+    match board.add(member) {
+        Ok(_) => Ok(()),
+        Err(_) => Err(AllocError),
+    }
+}
+
+// The finding of the reply to the request of this xid, which so many replies go before.
+fn short_payload(before: u8) -> Finding {
+    Finding {
+        connection: 1,
+        reply: before as u64,
+        xid: before as i32 + 1,
+        cause: Cause::Payload(Flaw::Short { length: 3 }),
+    }
+}
+
+#[test]
+fn a_member_that_fails_goes_and_the_next_is_told_all_findings(rt: HostRuntime) -> Result<(), Fail> {
+    let alloc = rt.alloc();
+    let mut events = vec![in alloc;
+        DuoEvent::Client(bytes(alloc, &ASKED[..CONNECT])?),
+        DuoEvent::Store(bytes(alloc, &ANSWERED[..CONNECTED])?),
+    ]?;
+    for xid in 1..4 {
+        let (read, answer) = read_and_answer(alloc, xid)?;
+        events.push(DuoEvent::Client(read))?;
+        events.push(DuoEvent::Store(answer))?;
+    }
+    let mut duo = MemoryDuo::new(alloc, events, Vec::new(alloc));
+    let mut board = Board::new(alloc);
+    add(
+        &mut board,
+        Box::new(alloc, ListObserver::new(alloc, vec![in alloc; 1]?))?,
+    )?;
+    add(
+        &mut board,
+        Box::new(alloc, ListObserver::new(alloc, Vec::new(alloc)))?,
+    )?;
+    let ending = relay(alloc, keys(), 0, 1, 100, &mut duo, &mut board);
+    assert_eq!(rt; ending, Ending::ClientEnd);
+    assert_eq!(rt; board.members(), 1);
+    let Some(member) = board.remove(1) else {
+        panic!(rt; "the second member is gone")
+    };
+    for before in 0..3 {
+        assert_eq!(rt; member.noted(before as usize), Some(short_payload(before)));
+    }
+    assert_eq!(rt; member.noted(3), None);
     Ok(())
 }
 
